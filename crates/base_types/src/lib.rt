@@ -1,0 +1,9 @@
+//! Texts and bytes as contracts see them: a list of bytes, and nothing of capacity or place.
+#![tactic(auto)]
+
+mod bytes;
+mod text;
+
+pub use bytes::Bytes;
+pub use sqlite_items::{Boxed, Items};
+pub use text::Text;

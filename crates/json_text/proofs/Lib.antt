@@ -1,0 +1,4 @@
+pub mod CleanTexts
+pub mod Documents
+pub mod ReadingFacts
+pub mod Utf8Texts

@@ -1,0 +1,5 @@
+pub mod Clean
+pub mod Document
+pub mod Forms
+pub mod Reading
+pub mod Rules
