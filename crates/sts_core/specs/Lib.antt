@@ -1,0 +1,6 @@
+pub mod Configuration
+pub mod Forms
+pub mod Machine
+pub mod Replies
+pub mod Runs
+pub mod State

@@ -1,0 +1,101 @@
+use base_types::{Bytes, Text};
+use std::alloc::{AllocError, Global};
+
+/// The service's configuration.
+#[derive(Debug, Drop)]
+pub struct Config {
+    /// The `iss` of the tokens that the service issues, 1 to 256 bytes.
+    pub issuer: Text,
+    /// The key that signs them (HS256), 32 to 128 bytes.
+    pub key: Bytes,
+    /// The bearer of admin commands, 16 to 256 visible ASCII.
+    pub admin: Text,
+    /// The bearer of checks and introspections, 16 to 256 visible ASCII.
+    pub gate: Text,
+    /// A provider that is there from the start, enabled, in an enabled pool.
+    pub start: Option<StartProvider>,
+}
+
+/// A workload identity pool: a project's number and the pool's name in it.
+#[derive(Debug, Drop)]
+pub struct PoolName {
+    pub project: Text,
+    pub pool: Text,
+}
+
+/// A provider of outside tokens that is there from the start.
+#[derive(Debug, Drop)]
+pub struct StartProvider {
+    pub pool: PoolName,
+    pub id: Text,
+    /// The `iss` of its tokens, 1 to 256 bytes.
+    pub issuer: Text,
+    /// The key that they are signed with (HS256), 32 to 128 bytes.
+    pub key: Bytes,
+}
+
+/// Why bytes gave no configuration.
+#[derive(Clone, Copy, Debug, PartialEq, Eq)]
+pub enum ConfigError {
+    Form,
+    Memory,
+}
+
+impl From<AllocError> for ConfigError {
+    ghost use Rattle.std.specs.Prelude.{◌≡◌};
+    ghost use Rattle.sts_core.specs.declared.config.ConfigError.TheVariants.{Memory};
+
+    ghost from_gives = { λ _ e. e ≡ Memory };
+
+    fn from(_: AllocError) -> Self {
+        ConfigError::Memory
+    }
+}
+
+impl PoolName {
+    ghost use Rattle.std.specs.Prelude.{◌≡◌, IfOk};
+
+    pub fn copy(&self, alloc: Global) -> Result<Self, AllocError>
+        ensures { IfOk result (λ name. name ≡ self.now) }
+    {
+        Ok(PoolName {
+            project: self.project.copy(alloc)?,
+            pool: self.pool.copy(alloc)?,
+        })
+    }
+}
+
+impl StartProvider {
+    ghost use Rattle.std.specs.Prelude.{◌≡◌, IfOk};
+
+    pub fn copy(&self, alloc: Global) -> Result<Self, AllocError>
+        ensures { IfOk result (λ provider. provider ≡ self.now) }
+    {
+        Ok(StartProvider {
+            pool: self.pool.copy(alloc)?,
+            id: self.id.copy(alloc)?,
+            issuer: self.issuer.copy(alloc)?,
+            key: self.key.copy(alloc)?,
+        })
+    }
+}
+
+impl Config {
+    ghost use Rattle.std.specs.Prelude.{◌≡◌, IfOk};
+
+    pub fn copy(&self, alloc: Global) -> Result<Self, AllocError>
+        ensures { IfOk result (λ config. config ≡ self.now) }
+    {
+        let start = match &self.start {
+            Some(provider) => Some(provider.copy(alloc)?),
+            None => None,
+        };
+        Ok(Config {
+            issuer: self.issuer.copy(alloc)?,
+            key: self.key.copy(alloc)?,
+            admin: self.admin.copy(alloc)?,
+            gate: self.gate.copy(alloc)?,
+            start,
+        })
+    }
+}
