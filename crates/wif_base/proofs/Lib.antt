@@ -1,6 +1,7 @@
 pub mod Images
 pub mod Known
 pub mod Moments
+pub mod Outputs
 mod Prefixes
 mod Reading
 mod Replays

@@ -1,0 +1,5 @@
+pub mod Cuts
+mod Replying
+pub mod Runs
+mod Stages
+mod Words

@@ -1,0 +1,98 @@
+use Rattle.std.proofs.Common.{◌≡◌, ◌≢◌, ◌≤◌, ◌<◌, ◌+◌, ◌-◌, ◌*◌, ◌++◌, [], ◌∷◌, ℕ, List, length, drop, inl, inr, refl, sym, ◌∙◌, ap, subst, arith, length-drop, length-append}
+use Rattle.std.proofs.lemmas.List.{append-nil}
+use Rattle.wif_base.specs.Carried.{Carried, input_limit}
+use Rattle.sts_serve.specs.Frames.{frame_text, NoFrame}
+use Rattle.sts_serve.specs.Found.{IsFound}
+use Rattle.sts_serve.specs.declared.frame.Found.{Found}
+use Rattle.sts_serve.specs.declared.frame.Found.TheVariants.{Whole, Never}
+use Rattle.sts_serve.proofs.Runs.{SoFar, starts, answered_under, broken_under, read_on, kept, finished, ended, some_frame}
+use Rattle.sts_serve.proofs.script.run_script.Goals as goal
+
+at_front : {buffer bytes : List ℕ} {found there : Found} → bytes ≡ buffer → found ≡ there → IsFound bytes found → IsFound buffer there
+at_front {buffer} {bytes} {found} {there} same is fits = subst (λ (b : List ℕ). IsFound b there) same (subst (λ (f : Found). IsFound bytes f) is fits)
+
+pub returns-in-Err-answer_frame-clause-run : goal.returns-in-Err-answer_frame-clause-run
+returns-in-Err-answer_frame-clause-run g c =
+    let i = c.frames.invariant in
+    let w = c.in-Ok-Whole in
+    let found : IsFound c.frames.carry.unused (Whole w.frame w.size) = at_front c.unused.ensures w.field-0-is w.ensures in
+    broken_under _ _ _ _ _ _ _ _ _ _ c.frames.carry _ w.size w.frame _ i.config i.so_far i.within found c.in-Err-answer_frame.ensures.ends c.in-Err-answer_frame.ensures.answers
+
+pub frames-smaller-in-Ok-Whole : goal.frames-smaller-in-Ok-Whole
+frames-smaller-in-Ok-Whole g c =
+    let w = c.in-Ok-Whole in
+    let found : IsFound c.frames.carry.unused (Whole w.frame w.size) = at_front c.unused.ensures w.field-0-is w.ensures in
+    omega (arith, some_frame w.frame, found.1, ap length found.2, ap length c.use_up.ensures.unused, c.use_up.ensures.taken, length-append (frame_text w.frame) (drop w.size c.frames.carry.unused))
+
+pub frames-preserved-in-Ok-Whole : goal.frames-preserved-in-Ok-Whole
+frames-preserved-in-Ok-Whole g c =
+    let i = c.frames.invariant in
+    let w = c.in-Ok-Whole in
+    let found : IsFound c.frames.carry.unused (Whole w.frame w.size) = at_front c.unused.ensures w.field-0-is w.ensures in
+    record {
+      so_far = answered_under _ _ _ _ _ _ _ _ _ _ c.frames.carry c.use_up.new.self _ w.size w.frame i.config i.so_far found c.use_up.ensures.unused c.use_up.ensures.taken c.in_default.ensures.answers;
+      config = c.answer_frame.ensures.config ∙ i.config;
+      disk = c.answer_frame.ensures.disk ∙ i.disk;
+      within = omega (arith, i.within, c.use_up.ensures.taken);
+      source = i.source;
+      sink = omega (arith, i.sink, c.answer_frame.ensures.count);
+      same_source = i.same_source;
+      same_sink = c.answer_frame.ensures.same ∙ i.same_sink;
+    }
+
+pub frames-preserved : goal.frames-preserved
+frames-preserved g c =
+    let i = c.frames.invariant in
+    let more = c.in-Some.ensures.more in
+    record {
+      so_far = read_on _ _ _ _ _ _ _ _ c.frames.carry c.take_more.new.self more.0 _ i.so_far more.1.source more.1.unused more.1.taken;
+      config = i.config;
+      disk = i.disk;
+      within = more.3;
+      source = omega (arith, i.source, c.in-Some.ensures.count);
+      sink = i.sink;
+      same_source = c.in-Some.ensures.same ∙ i.same_source;
+      same_sink = i.same_sink;
+    }
+
+pub returns-in-End-clause-run : goal.returns-in-End-clause-run
+returns-in-End-clause-run g c =
+    let i = c.frames.invariant in
+    let more = c.in-End.ensures.more in
+    let none_here : NoFrame c.frames.carry.unused = at_front c.unused.ensures c.in-Ok-Part.field-0-is c.in-Ok-Part.ensures in
+    let same : c.take_more.new.self ≡ c.frames.carry = more.2 in
+    ended _ _ _ _ _ _ _ c.take_more.new.self _ _ (kept _ _ _ _ _ _ _ _ c.frames.carry c.take_more.new.self _ i.so_far more.1 same)
+    (subst (λ (k : Carried). k.taken ≤ input_limit) (sym same) i.within) (subst (λ (k : Carried). NoFrame k.unused) (sym same) none_here) more.0 c.at_end.ensures.done c.at_end.ensures.malformed
+
+pub returns-in-Failed-clause-run : goal.returns-in-Failed-clause-run
+returns-in-Failed-clause-run g c =
+    let i = c.frames.invariant in
+    let more = c.in-Failed.ensures.more in
+    let none_here : NoFrame c.frames.carry.unused = at_front c.unused.ensures c.in-Ok-Part.field-0-is c.in-Ok-Part.ensures in
+    let so_far = kept _ _ _ _ _ _ _ _ c.frames.carry c.frames.carry _ i.so_far more.0 refl in
+    finished _ _ _ _ _ _ _ c.frames.carry _ _ so_far (none_here, refl, omega (arith, so_far.size, i.within))
+
+pub returns-in-Limit-clause-run : goal.returns-in-Limit-clause-run
+returns-in-Limit-clause-run g c =
+    let i = c.frames.invariant in
+    let more = c.in-Limit.ensures.more in
+    let none_here : NoFrame c.frames.carry.unused = at_front c.unused.ensures c.in-Ok-Part.field-0-is c.in-Ok-Part.ensures in
+    let so_far = read_on _ _ _ _ _ _ _ _ c.frames.carry c.take_more.new.self (more.1.0 ∷ []) _ i.so_far more.1.1.source more.1.1.unused more.1.1.taken in
+    finished _ _ _ _ _ _ _ c.take_more.new.self _ _ so_far
+    (omega (arith, more.0, so_far.size, more.1.1.taken), refl, (c.frames.carry.unused, more.1.0, more.1.1.unused, none_here))
+
+pub returns-in-Memory-clause-run : goal.returns-in-Memory-clause-run
+returns-in-Memory-clause-run g c =
+    let more = c.in-Memory.ensures.more in
+    let carry : Carried = record { unused = c.frames.carry.unused ++ more.0; taken = c.frames.carry.taken + length more.0 } in
+    finished _ _ _ _ _ _ _ carry _ _ (read_on _ _ _ _ _ _ _ _ c.frames.carry carry more.0 _ c.frames.invariant.so_far more.1 refl refl) tt
+
+pub returns-in-Ok-Never-clause-run : goal.returns-in-Ok-Never-clause-run
+returns-in-Ok-Never-clause-run g c =
+    let i = c.frames.invariant in
+    let never : IsFound c.frames.carry.unused Never = at_front c.unused.ensures c.in-Ok-Never.field-0-is c.in-Ok-Never.ensures in
+    let none_here : NoFrame c.frames.carry.unused = subst NoFrame (append-nil c.frames.carry.unused) (never.1 []) in
+    finished _ _ _ _ _ _ _ c.frames.carry _ _ i.so_far (never.0, none_here, refl, i.so_far.place, inl never.1, omega (arith, i.so_far.size, i.within))
+
+pub returns-in-Err-clause-run : goal.returns-in-Err-clause-run
+returns-in-Err-clause-run g c = finished _ _ _ _ _ _ _ c.frames.carry _ _ c.frames.invariant.so_far tt

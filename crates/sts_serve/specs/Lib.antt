@@ -1,0 +1,5 @@
+pub mod Answered
+pub mod Cut
+pub mod Found
+pub mod Frames
+pub mod Served

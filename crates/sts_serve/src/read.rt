@@ -1,0 +1,81 @@
+ghost use Rattle.std.specs.Prelude.{◌≡◌, IfOk, IfSome};
+ghost use Rattle.std.specs.List.{AllByRecursion};
+ghost use Rattle.sts_serve.specs.Found.{IsFound};
+ghost use Rattle.sts_serve.specs.Frames.{IsVisible, IsWord, IsBearer, bearer_text};
+
+use crate::cut::{Cut, cut_word};
+use crate::number::read_number;
+use crate::{Found, Frame};
+use base_types::{Bytes, Text};
+use std::alloc::{AllocError, Global};
+
+const NO_BEARER: &[u8] = b"-";
+
+/// Reads the frame at the front of some bytes.
+pub fn read_frame(alloc: Global, bytes: &[u8]) -> Result<Found, AllocError>
+    ensures { IfOk result (IsFound bytes.now) }
+{
+    let (path, rest) = match cut_word(bytes, b' ', 2048) {
+        Cut::Word(word, rest) => (word, rest),
+        Cut::Part => return Ok(Found::Part),
+        Cut::Never => return Ok(Found::Never),
+    };
+    let (bearer, rest) = match cut_word(rest, b' ', 8192) {
+        Cut::Word(word, rest) => (word, rest),
+        Cut::Part => return Ok(Found::Part),
+        Cut::Never => return Ok(Found::Never),
+    };
+    let (moment, rest) = match cut_word(rest, b' ', 12) {
+        Cut::Word(word, rest) => (word, rest),
+        Cut::Part => return Ok(Found::Part),
+        Cut::Never => return Ok(Found::Never),
+    };
+    let Some(moment) = read_number(alloc, moment, 200_000_000_000)? else {
+        return Ok(Found::Never);
+    };
+    let (size, rest) = match cut_word(rest, b'\n', 5) {
+        Cut::Word(word, rest) => (word, rest),
+        Cut::Part => return Ok(Found::Part),
+        Cut::Never => return Ok(Found::Never),
+    };
+    let Some(size) = read_number(alloc, size, 65536)? else {
+        return Ok(Found::Never);
+    };
+    let size = size as usize;
+    if rest.len() <= size {
+        return Ok(Found::Part);
+    }
+    let (body, end) = rest.split_at(size);
+    if end[0] != b'\n' {
+        return Ok(Found::Never);
+    }
+    let path = text_of(alloc, path)?;
+    let bearer = bearer_of(alloc, bearer)?;
+    let body = Bytes::copy_of(alloc, body)?;
+    let frame = Frame {
+        path,
+        bearer,
+        moment,
+        body,
+    };
+    Ok(Found::Whole(frame, bytes.len() - end.len() + 1))
+}
+
+fn bearer_of(alloc: Global, word: &[u8]) -> Result<Option<Text>, AllocError>
+    requires { IsWord 8192 word.now }
+    ensures text { IfOk result (λ bearer. bearer_text bearer ≡ word.now) }
+    ensures form { IfOk result (λ bearer. IfSome bearer IsBearer) }
+{
+    if word == NO_BEARER {
+        return Ok(None);
+    }
+    Ok(Some(text_of(alloc, word)?))
+}
+
+fn text_of(alloc: Global, word: &[u8]) -> Result<Text, AllocError>
+    requires { AllByRecursion IsVisible word.now }
+    ensures { IfOk result (λ text. text ≡ word.now) }
+{
+    let text = std::str::from_utf8(word).unwrap();
+    Text::copy_of(alloc, text)
+}
