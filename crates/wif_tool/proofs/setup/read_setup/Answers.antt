@@ -1,0 +1,15 @@
+use Rattle.std.proofs.Common.{◌≡◌, List, ℕ, ap, subst}
+use Rattle.std.specs.Prelude.{Result, Err}
+use Rattle.wif_tool.specs.Status.{NotConfigured}
+use Rattle.sts_core.specs.Configuration.{IsConfiguration}
+use Rattle.sts_core.specs.declared.config.Config.{Config}
+use Rattle.sts_core.specs.declared.config.ConfigError.{ConfigError}
+use Rattle.wif_tool.proofs.setup.read_setup.Goals as goal
+
+pub returns-in-Err-Form-clause-form : goal.returns-in-Err-Form-clause-form
+returns-in-Err-Form-clause-form g c = λ is. record {
+  bytes = c.in_ok-bytes.bytes.items;
+  read = c.in_ok-bytes.ensures.read;
+  none = subst (λ (b : List ℕ). (config : Config) → IsConfiguration b config → ⊥) c.as_slice.ensures.value
+      (c.in-Err-Form.ensures.form (ap (λ (e : ConfigError). Err e) c.in-Err-Form.field-0-is));
+}

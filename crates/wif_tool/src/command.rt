@@ -1,0 +1,25 @@
+ghost use Rattle.std.specs.Prelude.{◌≡◌};
+ghost use Rattle.wif_tool.specs.Command.{command, texts};
+
+/// What the words of a command line ask for.
+#[derive(Clone, Copy, Debug, PartialEq, Eq)]
+pub enum Command {
+    /// `script CONFIG JOURNAL`: the requests of a script, from standard input to standard output.
+    Script,
+}
+
+/// The command that the words behind the program's name are.
+pub fn command_of(words: &[String]) -> Option<Command>
+    ensures { result ≡ command (texts words.now) }
+{
+    match words {
+        [name, _, _] => {
+            if name.as_str() == "script" {
+                Some(Command::Script)
+            } else {
+                None
+            }
+        }
+        _ => None,
+    }
+}

@@ -1,0 +1,65 @@
+//! The program `sts`: a security token service over a script of requests.
+#![tactic(auto)]
+
+mod command;
+mod run;
+mod setup;
+#[cfg(test)]
+mod tests;
+
+pub use command::Command;
+pub use run::sts_run;
+use std::process::ExitCode;
+use std::{env, io};
+use wif_base::{FileDisk, FileSource, StdinSource, StdoutSink, SystemClock};
+
+// The words behind the program's name.
+fn words_of(rt: &HostRuntime) -> io::Result<Vec<String>> {
+    let mut words = Vec::new(rt.alloc());
+    for word in env::args(rt)?.skip(1) {
+        words.push(word)?;
+    }
+    Ok(words)
+}
+
+// The word at a place, or none.
+fn word_at(words: &[String], at: usize) -> &str {
+    match words.get(at) {
+        Some(word) => word.as_str(),
+        None => "",
+    }
+}
+
+fn status_of(rt: &HostRuntime, words: &[String]) -> u8 {
+    let mut config = FileSource::open(rt, word_at(words, 1));
+    let mut input = StdinSource::new(rt);
+    let mut output = StdoutSink::new(io::writer(rt));
+    let mut disk = FileDisk::open(rt, word_at(words, 2));
+    let mut clock = SystemClock::new(rt);
+    sts_run(
+        rt.alloc(),
+        words,
+        &mut config,
+        &mut input,
+        &mut output,
+        &mut disk,
+        &mut clock,
+    )
+}
+
+fn main(rt: HostRuntime) -> ExitCode {
+    let status = match words_of(&rt) {
+        Ok(words) => status_of(&rt, &words),
+        Err(error) => {
+            if error.kind() == io::ErrorKind::OutOfMemory {
+                7
+            } else {
+                2
+            }
+        }
+    };
+    if status != 0 {
+        let _ = eprintln!(rt; "status {status}");
+    }
+    ExitCode::from(status)
+}

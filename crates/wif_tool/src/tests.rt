@@ -1,0 +1,262 @@
+ghost use Rattle.std.specs.Prelude.{None, ◌≡◌};
+
+use crate::sts_run;
+use std::alloc::{AllocError, Global};
+use std::test::Fail;
+use wif_base::{Failed, MemClock, MemDisk, MemSink, MemSource, Sink, Source};
+
+const CONFIG: &[u8] =
+    b"{\"issuer\":\"https://sts.example\",\"key\":\"U1NTU1NTU1NTU1NTU1NTU1NTU1NTU1NTU1NTU1NTU1M\",\"admin\":\"admin-secret-000001\",\"gate\":\"gate-secret-0000001\"}";
+
+const NOT_FOUND: &str = "404 46\n{\"error\":\"not_found\",\"error_description\":\"H4\"}\n";
+
+const INACTIVE: &str = "200 16\n{\"active\":false}\n";
+
+// A source that gives one byte at a time.
+#[derive(Drop)]
+struct Drip {
+    inner: MemSource,
+    faults: u64,
+}
+
+impl Source for Drip {
+    ghost left = { λ _. None };
+
+    ghost faults = { λ s. s.faults };
+
+    ghost lender = { λ _. 0 };
+
+    fn read(&mut self, into: &mut [u8]) -> Result<usize, Failed> {
+        let end = into.len().min(1);
+        match self.inner.read(&mut into[..end]) {
+            Ok(count) => Ok(count),
+            Err(Failed) => {
+                self.faults = self.faults.saturating_add(1);
+                Err(Failed)
+            }
+        }
+    }
+}
+
+fn words_of(alloc: Global, line: &str) -> Result<Vec<String>, AllocError> {
+    let mut words = Vec::new(alloc);
+    for word in line.split_ascii_whitespace() {
+        words.push(word.to_owned(alloc)?)?;
+    }
+    Ok(words)
+}
+
+// Which calls of the configuration, the input and the output fail.
+#[derive(Clone, Copy)]
+struct Failing {
+    config: u64,
+    input: u64,
+    output: u64,
+}
+
+const NEVER: Failing = Failing {
+    config: 999,
+    input: 999,
+    output: 999,
+};
+
+#[derive(Drop)]
+struct Ran {
+    status: u8,
+    output: String,
+}
+
+fn sink_of(alloc: Global, fail: u64) -> Result<MemSink, AllocError> {
+    let mut room = Vec::new(alloc);
+    room.reserve(65536)?;
+    Ok(MemSink::new(room, vec![in alloc; fail]?))
+}
+
+fn run_with(
+    alloc: Global,
+    line: &str,
+    config: &[u8],
+    input: &mut impl Source,
+    failing: Failing,
+) -> Result<Ran, Fail> {
+    let words = words_of(alloc, line)?;
+    let mut config = MemSource::new(config.to_vec(alloc)?, vec![in alloc; failing.config]?);
+    let mut output = sink_of(alloc, failing.output)?;
+    let mut disk = MemDisk::new(alloc, b"", 0, 0, Vec::new(alloc))?;
+    let mut clock = MemClock::new(Vec::new(alloc), Vec::new(alloc));
+    let status = sts_run(
+        alloc,
+        &words,
+        &mut config,
+        input,
+        &mut output,
+        &mut disk,
+        &mut clock,
+    );
+    let text = std::str::from_utf8(&output.bytes).unwrap_or("no text");
+    Ok(Ran {
+        status,
+        output: text.to_owned(alloc)?,
+    })
+}
+
+fn run(alloc: Global, input: &[u8], failing: Failing) -> Result<Ran, Fail> {
+    let mut source = MemSource::new(input.to_vec(alloc)?, vec![in alloc; failing.input]?);
+    run_with(alloc, "script c j", CONFIG, &mut source, failing)
+}
+
+// `before`, then a byte so many times, then `after`.
+fn around(
+    alloc: Global,
+    before: &str,
+    byte: u8,
+    count: usize,
+    after: &str,
+) -> Result<Vec<u8>, AllocError> {
+    let mut bytes = before.as_bytes().to_vec(alloc)?;
+    for _ in 0..count {
+        bytes.push(byte)?;
+    }
+    bytes.extend_from_slice(after.as_bytes())?;
+    Ok(bytes)
+}
+
+#[test]
+fn what_is_no_frame_is_told_by_its_place(rt: HostRuntime) -> Result<(), Fail> {
+    let alloc = rt.alloc();
+    let cases: [(&str, u8, &str); 25] = [
+        ("", 0, ""),
+        ("/v1/none - 0 0\n\n", 0, "H"),
+        ("/v1/check - 0\n", 8, "fault 8 at 0\n"),
+        ("/v1/none - 0 0\n\n/v1/check - 0\n", 8, "Hfault 8 at 16\n"),
+        (
+            "/v1/none - 0 0\n\n/v1/none - 0 0\n\n\n",
+            8,
+            "HHfault 8 at 32\n",
+        ),
+        ("/v1/none - 0 0\n", 8, "fault 8 at 0\n"),
+        ("/v1/none - 0 1\n\n", 8, "fault 8 at 0\n"),
+        ("/v1/none - 0 1\n\n\n", 0, "H"),
+        ("/v1/none - 0 0\nx", 8, "fault 8 at 0\n"),
+        (" /v1/none - 0 0\n\n", 8, "fault 8 at 0\n"),
+        ("/v1/none  - 0 0\n\n", 8, "fault 8 at 0\n"),
+        ("/v1/none -\t0 0\n\n", 8, "fault 8 at 0\n"),
+        ("/v1/n\u{e9}e - 0 0\n\n", 8, "fault 8 at 0\n"),
+        ("/v1/none - 00 0\n\n", 8, "fault 8 at 0\n"),
+        ("/v1/none - 01 0\n\n", 8, "fault 8 at 0\n"),
+        ("/v1/none - 0 00\n\n", 8, "fault 8 at 0\n"),
+        ("/v1/none - +1 0\n\n", 8, "fault 8 at 0\n"),
+        ("/v1/none - -1 0\n\n", 8, "fault 8 at 0\n"),
+        ("/v1/none - 1.0 0\n\n", 8, "fault 8 at 0\n"),
+        ("/v1/none - 200000000000 0\n\n", 0, "H"),
+        ("/v1/none - 200000000001 0\n\n", 8, "fault 8 at 0\n"),
+        ("/v1/none - 1000000000000 0\n\n", 8, "fault 8 at 0\n"),
+        ("/v1/none - 0 65537\n", 8, "fault 8 at 0\n"),
+        ("/v1/none - 0 99999999999999999999\n", 8, "fault 8 at 0\n"),
+        ("/v1/none - 0 0\r\n\n", 8, "fault 8 at 0\n"),
+    ];
+    for (input, status, output) in cases {
+        let ran = run(alloc, input.as_bytes(), NEVER)?;
+        let wanted = output.replace(alloc, "H", NOT_FOUND)?;
+        assert_eq!(rt; ran.status, status, "{input}");
+        assert_eq!(rt; ran.output.as_str(), wanted.as_str(), "{input}");
+    }
+    Ok(())
+}
+
+#[test]
+fn words_of_a_frame_have_limits(rt: HostRuntime) -> Result<(), Fail> {
+    let alloc = rt.alloc();
+    let cases: [(&str, usize, &str, u8); 6] = [
+        ("/", 2047, " - 0 0\n\n", 0),
+        ("/", 2048, " - 0 0\n\n", 8),
+        ("/v1/none ", 8192, " 0 0\n\n", 0),
+        ("/v1/none ", 8193, " 0 0\n\n", 8),
+        ("/v1/none - 0 65536\n", 65536, "\n", 0),
+        ("/v1/none - 0 65536\n", 65535, "\n", 8),
+    ];
+    for (before, count, after, status) in cases {
+        let input = around(alloc, before, b'~', count, after)?;
+        let ran = run(alloc, &input, NEVER)?;
+        assert_eq!(rt; ran.status, status, "{before} {count}");
+    }
+    Ok(())
+}
+
+#[test]
+fn a_script_may_be_cut_anywhere(rt: HostRuntime) -> Result<(), Fail> {
+    let alloc = rt.alloc();
+    let script = b"/v1/none - 7 3\nabc\n/v1/introspect gate-secret-0000001 7 7\ntoken=a\n";
+    for length in 0..script.len() + 1 {
+        let (front, _) = script.split_at(length);
+        let mut whole = MemSource::new(front.to_vec(alloc)?, Vec::new(alloc));
+        let ran = run_with(alloc, "script c j", CONFIG, &mut whole, NEVER)?;
+        let wanted = match length {
+            0 => String::new(alloc),
+            1..=18 => "fault 8 at 0\n".to_owned(alloc)?,
+            19 => NOT_FOUND.to_owned(alloc)?,
+            66 => format!(in alloc; "{NOT_FOUND}{INACTIVE}")?,
+            _ => format!(in alloc; "{NOT_FOUND}fault 8 at 19\n")?,
+        };
+        assert_eq!(rt; ran.output.as_str(), wanted.as_str(), "{length}");
+        let mut drip = Drip {
+            inner: MemSource::new(front.to_vec(alloc)?, Vec::new(alloc)),
+            faults: 0,
+        };
+        let dripped = run_with(alloc, "script c j", CONFIG, &mut drip, NEVER)?;
+        assert_eq!(rt; dripped.status, ran.status, "{length}");
+        assert_eq!(rt; dripped.output.as_str(), wanted.as_str(), "{length}");
+    }
+    Ok(())
+}
+
+#[test]
+fn each_call_of_the_outside_may_fail(rt: HostRuntime) -> Result<(), Fail> {
+    let alloc = rt.alloc();
+    let frame = b"/v1/none - 0 0\n\n";
+    let bad = b"/v1/none - 0 0\n\nx";
+    let config = Failing { config: 0, ..NEVER };
+    let config_end = Failing { config: 1, ..NEVER };
+    let input = Failing { input: 0, ..NEVER };
+    let input_end = Failing { input: 1, ..NEVER };
+    let output = Failing { output: 0, ..NEVER };
+    let output_line = Failing { output: 1, ..NEVER };
+    let cases: [(&[u8], Failing, u8, &str); 8] = [
+        (frame, NEVER, 0, NOT_FOUND),
+        (frame, config, 3, ""),
+        (frame, config_end, 3, ""),
+        (frame, input, 3, ""),
+        (frame, input_end, 3, NOT_FOUND),
+        (frame, output, 4, ""),
+        (bad, output, 4, ""),
+        (bad, output_line, 4, NOT_FOUND),
+    ];
+    for (script, failing, status, wanted) in cases {
+        let ran = run(alloc, script, failing)?;
+        assert_eq!(rt; ran.status, status);
+        assert_eq!(rt; ran.output.as_str(), wanted);
+    }
+    Ok(())
+}
+
+#[test]
+fn words_and_configuration_are_looked_at_first(rt: HostRuntime) -> Result<(), Fail> {
+    let alloc = rt.alloc();
+    let cases: [(&str, &[u8], u8); 9] = [
+        ("script c j", CONFIG, 0),
+        ("", CONFIG, 2),
+        ("script", CONFIG, 2),
+        ("script c", CONFIG, 2),
+        ("script c j x", CONFIG, 2),
+        ("Script c j", CONFIG, 2),
+        ("stdio c j", CONFIG, 2),
+        ("script c j", b"", 1),
+        ("stdio c j", b"", 2),
+    ];
+    for (line, config, status) in cases {
+        let mut input = MemSource::new(Vec::new(alloc), Vec::new(alloc));
+        let ran = run_with(alloc, line, config, &mut input, NEVER)?;
+        assert_eq!(rt; ran.status, status, "{line}");
+    }
+    Ok(())
+}
