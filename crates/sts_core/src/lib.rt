@@ -6,6 +6,8 @@ mod form;
 mod read_config;
 mod reply;
 mod sts;
+#[cfg(test)]
+mod tests;
 
 pub use config::{Config, ConfigError, PoolName, StartProvider};
 pub use read_config::read_service_config;
