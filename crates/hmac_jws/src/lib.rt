@@ -1,0 +1,14 @@
+//! HMAC-SHA256 (RFC 2104) and JSON Web Signatures in the compact form under HS256 (RFC 7515).
+#![tactic(auto)]
+
+mod compact;
+mod fault;
+mod header;
+mod mac;
+mod parts;
+mod verification;
+
+pub use compact::sign;
+pub use fault::JwsFault;
+pub use mac::hmac;
+pub use verification::{Verified, verify};
