@@ -1,5 +1,5 @@
 -- The first fault of a text, by what its parts are.
-use Rattle.std.proofs.Common.{◌≡◌, ◌≢◌, ◌⊎◌, ℕ, Bool, true, false, List, [], ◌∷◌, length, Option, None, Some, Result, Ok, Err, IfOk, IfErr, IsErrAnd, option_and_then, inl, inr, ap, ◌∙◌, refl, arith}
+use Rattle.std.proofs.Common.{◌≡◌, ◌≢◌, ◌⊎◌, ℕ, true, false, List, [], ◌∷◌, Option, None, Some, Result, Ok, Err, IfOk, IfErr, IsErrAnd, inl, inr, ap, ◌∙◌, refl}
 use Rattle.std.proofs.lemmas.Result.{err_from_is_err_and}
 use Rattle.std.specs.Str.{bytes_eq}
 use Rattle.json_text.specs.Document.{document}
@@ -8,7 +8,7 @@ use Rattle.hmac_jws.specs.Compact.{base64url_bytes, signing_input}
 use Rattle.hmac_jws.specs.Verified.{parts, HasOtherParts, first_header_fault, first_fault_of_parts, first_jws_fault, payload_of, payload_of_parts}
 use Rattle.hmac_jws.specs.declared.verification.Verified.{Verified}
 use Rattle.hmac_jws.specs.declared.fault.JwsFault.{JwsFault}
-use Rattle.hmac_jws.specs.declared.fault.JwsFault.TheVariants.{Parts, Base64, Header, Alg, Crit, Mac, Memory}
+use Rattle.hmac_jws.specs.declared.fault.JwsFault.TheVariants.{Parts, Base64, Mac, Memory}
 
 -- want of memory, or the first fault
 abbrev pub IsFirst : List ℕ → List ℕ → JwsFault → Type 0

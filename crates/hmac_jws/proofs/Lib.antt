@@ -1,3 +1,5 @@
+pub mod Bytes
 pub mod FirstFaults
+pub mod Issued
 pub mod Sameness
 pub mod Splitting

@@ -1,5 +1,5 @@
 -- Two lists of bytes are the same where no xor of theirs leaves a bit.
-use Rattle.std.proofs.Common.{◌≡◌, ℕ, zero, ◌+◌, ◌<◌, ◌%◌, ◌==◌, Bool, true, false, ◌&&◌, List, [], ◌∷◌, ◌++◌, length, bit_or, bit_xor, Decides, arith, refl, sym, ap, ap₂, ◌∙◌}
+use Rattle.std.proofs.Common.{◌≡◌, ℕ, ◌+◌, ◌%◌, ◌==◌, Bool, true, false, ◌&&◌, List, [], ◌∷◌, ◌++◌, length, bit_or, bit_xor, Decides, arith, refl, sym, ap, ◌∙◌}
 use Rattle.std.specs.Int.{bit_at}
 use Rattle.std.specs.Str.{bytes_eq}
 use Rattle.std.proofs.lemmas.Nat.{le_or_l, le_or_r}
@@ -9,16 +9,17 @@ use Rattle.std.specs.Int.Bits.{xor_self}
 
 same_from_xor : (x y : ℕ) → bit_xor x y ≡ 0 → x ≡ y
 same_from_xor x y none = same_from_bits x y (λ i.
-      let sum : (bit_at x i + bit_at y i) % 2 ≡ 0 = sym (bit_at_xor x y i) ∙ ap (λ n. bit_at n i) none ∙ bit_at-zero i in
-      omega (arith, sum, bit_at-lt x i, bit_at-lt y i))
+    let sum : (bit_at x i + bit_at y i) % 2 ≡ 0 = sym (bit_at_xor x y i) ∙ ap (λ n. bit_at n i) none ∙ bit_at-zero i in
+    omega (arith, sum, bit_at-lt x i, bit_at-lt y i))
 
 Decides-difference : (d x y : ℕ) → Decides (bit_or d (bit_xor x y) == 0) ((d ≡ 0) × (x ≡ y))
 Decides-difference d x y =
-    let test = Decides-eqb (bit_or d (bit_xor x y)) 0 in
-    ( (λ is.
-        let none : bit_or d (bit_xor x y) ≡ 0 = test.0 is in
-        (omega (arith, none, le_or_l d (bit_xor x y)), same_from_xor x y (omega (arith, none, le_or_r d (bit_xor x y)))))
-    , (λ both. test.1 (rw (both.0, both.1, xor_self y) refl)))
+    let test = Decides-eqb (bit_or d (bit_xor x y)) 0 in (
+      (λ is.
+          let none : bit_or d (bit_xor x y) ≡ 0 = test.0 is in
+          (omega (arith, none, le_or_l d (bit_xor x y)), same_from_xor x y (omega (arith, none, le_or_r d (bit_xor x y))))),
+      (λ both. test.1 (rw (both.0, both.1, xor_self y) refl)),
+    )
 
 pub difference_more : (d x y : ℕ) → (bit_or d (bit_xor x y) == 0) ≡ ((d == 0) && (x == y))
 difference_more d x y =

@@ -3,7 +3,7 @@ use Rattle.std.proofs.Common.{◌≡◌, ◌≢◌, ℕ, ◌<◌, ◌==◌, Bool
 use denote.Ref.{Bor}
 use Rattle.std.specs.List.{All}
 use Rattle.std.proofs.lemmas.List.{get_or_default}
-use Rattle.std.specs.List.{count_by, join_with_byte}
+use Rattle.std.specs.List.{join_with_byte}
 use Rattle.std.proofs.lemmas.List.Splits.{slice_split_none, slice_split_at, length-slice_split, join_with_byte-slice_split}
 use Rattle.std.proofs.lemmas.Bool.Decides.{Decides-eqb}
 use Rattle.hmac_jws.specs.Compact.{dot, signing_input}
@@ -21,8 +21,8 @@ other_byte b false is other = refl
 
 HasNoDot-from_indices : (text : List ℕ) → ((i : ℕ) → i < length text → get_or text i 0 ≢ dot) → HasNoDot text
 HasNoDot-from_indices text other = λ k d h.
-      let same : get_or text k 0 ≡ get_or text k d = get_or_default text k 0 d h in
-      other_byte (get_or text k d) _ (Decides-eqb (get_or text k d) dot).0 (rw (← same) (other k h))
+    let same : get_or text k 0 ≡ get_or text k d = get_or_default text k 0 d h in
+    other_byte (get_or text k d) _ (Decides-eqb (get_or text k d) dot).0 (rw (← same) (other k h))
 
 -- a text without a dot is its only part
 pub parts-one : (text : List ℕ) → HasNoDot text → parts text ≡ text ∷ []
@@ -46,8 +46,8 @@ pub parts-four : (text header rest payload mac : List ℕ) (cut : Option (Bor (L
     → MatchOption cut (parts mac ≡ mac ∷ []) (λ x. parts mac ≡ x.0.now ∷ parts x.1.now) → is_some cut ≡ true → HasOtherParts (parts text)
 parts-four text header rest payload mac None a b c some = cc
 parts-four text header rest payload mac (Some x) a b c some = λ three.
-      let long : length (header ∷ payload ∷ x.0.now ∷ parts x.1.now) ≡ 3 = rw (a, b, c) at three in
-      omega (arith, long, length-slice_split is_dot x.1.now)
+    let long : length (header ∷ payload ∷ x.0.now ∷ parts x.1.now) ≡ 3 = rw (a, b, c) at three in
+    omega (arith, long, length-slice_split is_dot x.1.now)
 
 -- no dot there, and there are three
 pub parts-three : (text header rest payload mac : List ℕ) (cut : Option (Bor (List ℕ) × Bor (List ℕ)))
@@ -60,3 +60,10 @@ parts-three text header rest payload mac (Some x) a b c none = cc
 pub joined-three : (text header payload mac : List ℕ) → parts text ≡ header ∷ payload ∷ mac ∷ [] → text ≡ signing_input header payload ++ dot ∷ mac
 joined-three text header payload mac three =
     sym (join_with_byte-slice_split dot text) ∙ ap (join_with_byte dot) three ∙ sym (append_assoc header (dot ∷ payload) (dot ∷ mac))
+
+-- three parts without a dot are the parts of their text
+pub parts-joined : (header payload mac : List ℕ) → HasNoDot header → HasNoDot payload → HasNoDot mac
+    → parts (signing_input header payload ++ dot ∷ mac) ≡ header ∷ payload ∷ mac ∷ []
+parts-joined header payload mac a b c =
+    ap parts (append_assoc header (dot ∷ payload) (dot ∷ mac)) ∙ parts-more header (payload ++ dot ∷ mac) a
+    ∙ ap (λ rest. header ∷ rest) (parts-more payload mac b ∙ ap (λ rest. payload ∷ rest) (parts-one mac c))

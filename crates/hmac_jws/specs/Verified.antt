@@ -29,7 +29,7 @@ is_text text (Some found) = bytes_eq found text
 abbrev pub first_header_fault : Option Data → Option JwsFault
 first_header_fault None = Some Header
 first_header_fault (Some header) = first_of
-    ( fails_if (not (is_some (as_object header))) Header
+    (fails_if (not (is_some (as_object header))) Header
     ∷ fails_if (not (is_text (codes "HS256") (text_at (codes "alg") header))) Alg
     ∷ fails_if (is_some (get (codes "crit") header)) Crit
     ∷ [])
@@ -41,7 +41,7 @@ is_mac key header payload mac = is_text (hmac_of key (signing_input header paylo
 -- the first rule that the parts fail
 abbrev pub first_fault_of_parts : List ℕ → List (List ℕ) → Option JwsFault
 first_fault_of_parts key (header ∷ payload ∷ mac ∷ []) = first_of
-    ( fails_if (is_none (base64url_bytes header)) (Base64 0)
+    (fails_if (is_none (base64url_bytes header)) (Base64 0)
     ∷ fails_if (is_none (base64url_bytes payload)) (Base64 1)
     ∷ fails_if (is_none (base64url_bytes mac)) (Base64 2)
     ∷ first_header_fault (option_and_then document (base64url_bytes header))

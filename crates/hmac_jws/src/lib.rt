@@ -4,11 +4,15 @@
 mod compact;
 mod fault;
 mod header;
+mod laws;
 mod mac;
 mod parts;
+#[cfg(test)]
+mod tests;
 mod verification;
 
 pub use compact::sign;
 pub use fault::JwsFault;
+pub use laws::signed_text_verifies;
 pub use mac::hmac;
 pub use verification::{Verified, verify};

@@ -5,6 +5,7 @@ ghost use Rattle.hmac_jws.specs.Hmac.{hmac_of, block_key, xor_pad};
 use sha2::{Digest, Sha256};
 
 const INNER_PAD: u8 = 0x36;
+
 const OUTER_PAD: u8 = 0x5c;
 
 fn write_front(block: &mut [u8], bytes: &[u8])

@@ -8,9 +8,9 @@ use crate::fault::JwsFault;
 use crate::header::check_header;
 use crate::mac::{hmac, is_same_mac};
 use crate::parts::{parts_of, signed_input};
+use base_types::Bytes;
 use base64::DecodeAllocError;
 use base64::engine::general_purpose::URL_SAFE_NO_PAD;
-use base_types::Bytes;
 use std::alloc::Global;
 
 /// What a text says whose MAC was verified.

@@ -1,4 +1,4 @@
-use Rattle.std.proofs.Common.{◌≡◌, ◌∙◌, sym, ap, ap₂, Some, None, List, ℕ, true, false, inl, inr}
+use Rattle.std.proofs.Common.{◌≡◌, ◌∙◌, sym, ap, ap₂, None, true, false, inr}
 use Rattle.std.specs.Str.{bytes_eq}
 use Rattle.json_text.specs.Document.{document}
 use Rattle.hmac_jws.specs.Hmac.{hmac_of}
@@ -73,7 +73,8 @@ returns-clause-verified c =
     let mac = c.in_ok-mac.mac.items in
     let good : first_header_fault (document header) ≡ None = rw c.as_slice.ensures.value at c.in_ok-check_header.ensures.good in
     let same : bytes_eq mac (hmac_of key (signing_input p.header.now p.payload.now)) ≡ true =
-    sym (c.is_same_mac.ensures ∙ ap₂ bytes_eq c.as_slice-2.ensures.value (c.hmac.ensures ∙ ap (hmac_of key) c.signed_input.ensures)) ∙ c.if-not-is_same_mac.false in
-    ( first_none key text p.header.now p.payload.now p.mac.now c.in-Some.ensures.found header c.in_ok-header.ensures.decoded
-    payload c.in_ok-payload.ensures.decoded mac c.in_ok-mac.ensures.decoded good same
-    , c.new.ensures ∙ sym (payload_of_three key text p.header.now p.payload.now p.mac.now c.in-Some.ensures.found header c.in_ok-header.ensures.decoded payload c.in_ok-payload.ensures.decoded))
+    sym (c.is_same_mac.ensures ∙ ap₂ bytes_eq c.as_slice-2.ensures.value (c.hmac.ensures ∙ ap (hmac_of key) c.signed_input.ensures)) ∙ c.if-not-is_same_mac.false in (
+      first_none key text p.header.now p.payload.now p.mac.now c.in-Some.ensures.found header c.in_ok-header.ensures.decoded
+          payload c.in_ok-payload.ensures.decoded mac c.in_ok-mac.ensures.decoded good same,
+      c.new.ensures ∙ sym (payload_of_three key text p.header.now p.payload.now p.mac.now c.in-Some.ensures.found header c.in_ok-header.ensures.decoded payload c.in_ok-payload.ensures.decoded),
+    )
