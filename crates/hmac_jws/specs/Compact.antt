@@ -25,8 +25,11 @@ signed_header = codes "{\"alg\":\"HS256\",\"typ\":\"JWT\"}"
 abbrev pub signing_input : List ℕ → List ℕ → List ℕ
 signing_input header payload = header ++ dot ∷ payload
 
--- the text that a payload has under a key
+-- the text of a header and a payload under a key
+abbrev pub signed_text : List ℕ → List ℕ → List ℕ → List ℕ
+signed_text key header payload =
+    let signed = signing_input (base64url header) (base64url payload) in signed ++ dot ∷ base64url (hmac_of key signed)
+
+-- the text that is written for a payload under a key
 unfoldable pub compact : List ℕ → List ℕ → List ℕ
-compact key payload =
-    let signed = signing_input (base64url signed_header) (base64url payload) in
-    signed ++ dot ∷ base64url (hmac_of key signed)
+compact key payload = signed_text key signed_header payload

@@ -1,6 +1,6 @@
 ghost use Rattle.std.specs.Prelude.{◌≡◌, ◌≤◌, ◌∷◌, ◌++◌, length, IfOk, OnOk};
 ghost use Rattle.std.specs.String.{string_bytes};
-ghost use Rattle.hmac_jws.specs.Compact.{base64url, compact, dot, signed_header, signing_input};
+ghost use Rattle.hmac_jws.specs.Compact.{base64url, compact, dot};
 
 use crate::mac::hmac;
 use base64::engine::general_purpose::URL_SAFE_NO_PAD;

@@ -13,6 +13,6 @@ mod verification;
 
 pub use compact::sign;
 pub use fault::JwsFault;
-pub use laws::signed_text_verifies;
+pub use laws::{signed_text_verifies, verified_text_is_signed};
 pub use mac::hmac;
 pub use verification::{Verified, verify};

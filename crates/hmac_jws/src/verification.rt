@@ -1,5 +1,4 @@
-ghost use Rattle.std.specs.Prelude.{◌≡◌, ◌≢◌, ◌⊎◌, ◌≤◌, ◌∷◌, ◌↔◌, [], length, Some, None, Err, IfOk, IfErr};
-ghost use Rattle.base64.specs.GeneralPurpose.{IsBytes};
+ghost use Rattle.std.specs.Prelude.{◌≡◌, ◌≢◌, ◌⊎◌, ◌≤◌, length, Some, None, Err, IfOk, IfErr};
 ghost use Rattle.hmac_jws.specs.Compact.{base64url_bytes};
 ghost use Rattle.hmac_jws.specs.declared.fault.JwsFault.{JwsFault};
 ghost use Rattle.hmac_jws.specs.Verified.{MacGood, first_jws_fault, payload_of};
