@@ -1,0 +1,6 @@
+pub mod Accepted
+pub mod Bytes
+pub mod FirstFaults
+pub mod Issued
+pub mod Sameness
+pub mod Splitting

@@ -1,0 +1,2 @@
+pub mod ActorLists
+pub mod Payloads

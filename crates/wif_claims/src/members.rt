@@ -1,0 +1,97 @@
+ghost use Rattle.std.specs.Prelude.{◌≡◌, option_map, option_and_then, IfOk};
+ghost use Rattle.serde_json.specs.View.{view};
+ghost use Rattle.wif_claims.specs.Payload.{date_of as date_member, optional_date as optional_date_member, audiences, actor_of, actors};
+
+use base_types::{Items, Text};
+use json_text::{has_size, text_at, texts_of_items};
+use serde_json::Value;
+use std::alloc::{AllocError, Global};
+
+const DATE_LIMIT: u64 = 1 << 53;
+
+const MAX_ACTORS: usize = 8;
+
+fn date_of(value: &Value) -> Option<u64>
+    ensures { result ≡ date_member (view value.now) }
+{
+    let seconds = value.as_u64()?;
+    if seconds < DATE_LIMIT {
+        Some(seconds)
+    } else {
+        None
+    }
+}
+
+pub(crate) fn needed_date(member: Option<&Value>) -> Option<u64>
+    ensures { result ≡ option_and_then date_member (option_map (λ v. view v.now) member.entry) }
+{
+    match member {
+        None => None,
+        Some(value) => date_of(value),
+    }
+}
+
+pub(crate) fn optional_date(member: Option<&Value>) -> Option<Option<u64>>
+    ensures { result ≡ optional_date_member (option_map (λ v. view v.now) member.entry) }
+{
+    match member {
+        None => Some(None),
+        Some(value) => match date_of(value) {
+            None => None,
+            Some(date) => Some(Some(date)),
+        },
+    }
+}
+
+pub(crate) fn audiences_of(
+    alloc: Global,
+    member: Option<&Value>,
+) -> Result<Option<Items<Text>>, AllocError>
+    ensures { IfOk result (λ found. found ≡ audiences (option_map (λ v. view v.now) member.entry)) }
+{
+    let mut texts = Items::new(alloc);
+    match member {
+        None => Ok(Some(texts)),
+        Some(Value::String(text)) => {
+            texts.push(Text::copy_of(alloc, text.as_str())?)?;
+            Ok(Some(texts))
+        }
+        Some(Value::Array(items)) => texts_of_items(alloc, items.as_slice()),
+        Some(_) => Ok(None),
+    }
+}
+
+fn actor_of_object(object: &Value) -> Option<&str>
+    ensures { option_map (λ text. text.now) result ≡ actor_of (view object.now) }
+{
+    let sub = text_at(object, "sub")?;
+    if has_size(sub, 1, 1024) {
+        Some(sub)
+    } else {
+        None
+    }
+}
+
+pub(crate) fn actors_of(
+    alloc: Global,
+    member: Option<&Value>,
+) -> Result<Option<Items<Text>>, AllocError>
+    ensures { IfOk result (λ found. found ≡ actors 8 (option_map (λ v. view v.now) member.entry)) }
+{
+    let mut found = Items::new(alloc);
+    let mut left = member;
+    for _depth in 0..MAX_ACTORS {
+        let Some(object) = left else {
+            return Ok(Some(found));
+        };
+        let Some(actor) = actor_of_object(object) else {
+            return Ok(None);
+        };
+        found.push(Text::copy_of(alloc, actor)?)?;
+        left = object.get("may_act");
+    }
+    match left {
+        None => Ok(Some(found)),
+        Some(_) => Ok(None),
+    }
+}
