@@ -3,11 +3,13 @@
 #![tactic(auto)]
 
 mod bytes;
+mod laws;
 mod register;
 mod text;
 mod text_map;
 
 pub use bytes::Bytes;
+pub use laws::put_changes_its_name_alone;
 pub use register::Register;
 pub use sqlite_items::{Boxed, Items};
 pub use text::Text;

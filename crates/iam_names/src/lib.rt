@@ -26,6 +26,6 @@ pub use identity::Identity;
 pub use member::{Member, names_who};
 pub use name::{Form, Name};
 pub use pool_name::PoolName;
-pub use resource::{account_resource, covers};
-pub use roles::Roles;
+pub use resource::{account_resource, covers, covers_text};
+pub use roles::{Roles, has_permission};
 pub use who::Who;

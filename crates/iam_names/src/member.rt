@@ -82,7 +82,7 @@ fn identity_in<'a>(pool: &PoolName, who: &'a Who) -> Option<&'a Identity>
         Who::Outside {
             pool: other,
             identity,
-        } => if pool.is(other) { Some(identity) } else { None },
+        } => if pool == other { Some(identity) } else { None },
     }
 }
 

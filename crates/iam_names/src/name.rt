@@ -104,3 +104,9 @@ impl<F: Form> PartialEq for Name<F> {
         self.as_str() == other.as_str()
     }
 }
+
+impl<F: Form> Eq for Name<F> {
+    ghost use Rattle.std.proofs.lemmas.Cmp.{nat_list_eq_equiv};
+
+    ghost laws = { nat_list_eq_equiv };
+}

@@ -10,7 +10,7 @@ use base_types::Text;
 use std::alloc::{AllocError, Global};
 
 /// A pool's name: its project and its own name.
-#[derive(Debug, Drop)]
+#[derive(Debug, Drop, PartialEq, Eq)]
 pub struct PoolName {
     pub project: Project,
     pub pool: PoolId,
@@ -26,7 +26,7 @@ pub(crate) struct PoolPath<'a> {
 
 impl PoolName {
     ghost use Rattle.std.specs.Prelude.{◌≡◌, IfOk};
-    ghost use Rattle.iam_names.specs.PoolName.{pool_of, pool_of_text, pool_text, pool_path, same_pool};
+    ghost use Rattle.iam_names.specs.PoolName.{pool_of, pool_of_text, pool_text, pool_path};
     ghost use Rattle.iam_names.specs.Reads.{ReadsName};
 
     /// The pool of a project's text and a pool's text.
@@ -72,12 +72,6 @@ impl PoolName {
         let project = self.project.copy(alloc)?;
         let pool = self.pool.copy(alloc)?;
         Ok(PoolName { project, pool })
-    }
-
-    pub fn is(&self, other: &PoolName) -> bool
-        ensures { result ≡ same_pool self.now other.now }
-    {
-        self.project.as_str() == other.project.as_str() && self.pool.as_str() == other.pool.as_str()
     }
 }
 

@@ -11,8 +11,13 @@ use std::alloc::{AllocError, Global};
 pub fn covers(upper: &Resource, lower: &Resource) -> bool
     ensures { result ≡ resource.covers upper.now lower.now }
 {
-    let upper = upper.as_str();
-    let lower = lower.as_str();
+    covers_text(upper.as_str(), lower.as_str())
+}
+
+/// The same of two resources' texts.
+pub fn covers_text(upper: &str, lower: &str) -> bool
+    ensures { result ≡ resource.covers upper.now lower.now }
+{
     upper == lower || is_below(upper, lower)
 }
 

@@ -79,7 +79,7 @@ impl Roles {
 }
 
 /// Whether the permission is among them.
-fn has_permission(permissions: &[Permission], permission: &Permission) -> bool
+pub fn has_permission(permissions: &[Permission], permission: &Permission) -> bool
     ensures { result ≡ list_any (bytes_eq permission.now) permissions.now }
 {
     permissions
