@@ -1,0 +1,3 @@
+pub mod Granting
+pub mod Lists
+pub mod Puts

@@ -1,0 +1,21 @@
+//! Allow policies: roles, scope words, and bindings at resources; who is granted what.
+#![tactic(auto)]
+
+mod binding;
+mod granting;
+mod limits;
+mod policies;
+mod put_fault;
+mod puts;
+mod room;
+mod row;
+mod scope_set;
+
+pub use binding::Binding;
+pub use granting::{granted, knows_scope, scope_allows};
+pub use policies::Policies;
+pub use put_fault::PutFault;
+pub use puts::{place, place_role, place_scope, put_role, put_scope, set};
+pub use room::{ready, ready_role, ready_scope};
+pub use row::Row;
+pub use scope_set::ScopeSet;

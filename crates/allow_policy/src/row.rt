@@ -1,0 +1,34 @@
+use crate::binding::Binding;
+use base_types::Items;
+use std::marker::Model;
+
+/// The bindings of a policy, ready to be placed.
+#[derive(Debug, Drop)]
+pub struct Row {
+    bindings: Items<Binding>,
+}
+
+impl Model for Row {
+    ghost use Rattle.std.specs.Prelude.{List};
+    ghost use Rattle.allow_policy.specs.declared.binding.Binding.{Binding};
+
+    ghost Value = { List Binding };
+
+    ghost view = { λ row. row.bindings };
+}
+
+impl Row {
+    ghost use Rattle.std.specs.Prelude.{◌≡◌};
+
+    pub(crate) fn new(bindings: Items<Binding>) -> Self
+        ensures { result ≡ bindings }
+    {
+        Row { bindings }
+    }
+
+    pub(crate) fn into_bindings(self) -> Items<Binding>
+        ensures { result ≡ self }
+    {
+        self.bindings
+    }
+}

@@ -1,0 +1,3 @@
+pub mod AccountLemmas
+pub mod CutLemmas
+pub mod PrintedLemmas

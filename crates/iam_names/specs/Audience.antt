@@ -1,0 +1,17 @@
+-- A provider's full name, which an outside token names as its audience.
+use Rattle.std.specs.Prelude.{ℕ, List, ◌++◌, Option, Some, codes}
+use Rattle.json_text.specs.Reading.{◌>>=◌}
+use Rattle.iam_names.specs.Cuts.{after}
+use Rattle.iam_names.specs.Parts.{path_parts, provider_at}
+use Rattle.iam_names.specs.PoolName.{pool_of, pool_path}
+use Rattle.iam_names.specs.declared.audience.Audience.{Audience}
+
+abbrev pub audience_text : Audience → List ℕ
+audience_text name = codes "//" ++ (pool_path name.pool ++ (codes "/providers/" ++ name.provider))
+
+abbrev pub audience_of : List ℕ → Option Audience
+audience_of text =
+    (after (codes "//") text >>= path_parts)
+    >>= (λ path. pool_of path.0 path.1
+    >>= (λ pool. provider_at path.2
+    >>= (λ provider. Some (record { pool = pool; provider = provider }))))

@@ -1,0 +1,9 @@
+pub mod Audience
+pub mod Cuts
+pub mod Forms
+pub mod Member
+pub mod Parts
+pub mod PoolName
+pub mod Reads
+pub mod Resource
+pub mod Roles
