@@ -1,0 +1,46 @@
+-- The recorded links, and the chain of each: the link together with the links that it was made from.
+use Rattle.std.specs.Prelude.{ℕ, List, [], ◌∷◌, ◌++◌, length, Option, None, Some, slice_get}
+use Rattle.links.specs.declared.link.Link.{Link}
+use Rattle.links.specs.declared.link.LinkKind.{LinkKind}
+use Rattle.links.specs.declared.link.LinkKind.TheVariants.{Federated}
+use Rattle.links.specs.declared.link.Source.{Source}
+
+-- what each link has of its own, whatever its kind
+pub record Own : Type 0 where
+  pub number : ℕ
+  pub at : ℕ
+  pub words : List (List ℕ)
+
+-- a link with the links that it was made from, down to the outside tokens
+pub data Chain : Type 0 where
+  Root : Own → Source → Chain
+
+abbrev pub own : Chain → Own
+own (Root o source) = o
+
+-- the chain of a number, where it is that of a link whose parents stand earlier
+abbrev pub joined : Option (Option Chain) → Option Chain
+joined None = None
+joined (Some chain) = chain
+
+abbrev pub chain_at : List (Option Chain) → ℕ → Option Chain
+chain_at chains n = joined (slice_get chains n)
+
+-- the chain of a link of this kind, from those of the links before it
+abbrev pub chain_of_kind : Own → List (Option Chain) → LinkKind → Option Chain
+chain_of_kind o chains (Federated source) = Some (Root o source)
+
+-- what link n has of its own
+abbrev pub own_at : ℕ → Link → Own
+own_at n link = record { number = n; at = link.at; words = link.words }
+
+abbrev pub next_chain : List (Option Chain) → Link → Option Chain
+next_chain chains link = chain_of_kind (own_at (length chains) link) chains link.kind
+
+-- the chains of the links, in order, behind those that are there
+abbrev pub chains_after : List (Option Chain) → List Link → List (Option Chain)
+chains_after chains [] = chains
+chains_after chains (link ∷ links) = chains_after (chains ++ next_chain chains link ∷ []) links
+
+unfoldable pub chains_of : List Link → List (Option Chain)
+chains_of links = chains_after [] links

@@ -1,0 +1,28 @@
+use base_types::{Items, Text};
+use iam_names::{Identity, PoolName, ScopeWord};
+
+/// What an outside token gave, read with the provider as it stood then.
+#[derive(Debug, Drop)]
+pub struct Source {
+    pub pool: PoolName,
+    pub identity: Identity,
+    /// Seconds since 1970-01-01T00:00:00Z.
+    pub exp: u64,
+    /// Who may act for the subject, the next one first.
+    pub may_act: Items<Text>,
+}
+
+/// What a link was made from.
+#[derive(Debug, Drop)]
+pub enum LinkKind {
+    Federated(Source),
+}
+
+/// A recorded link: what an access token was issued for.
+#[derive(Debug, Drop)]
+pub struct Link {
+    /// Seconds since 1970-01-01T00:00:00Z.
+    pub at: u64,
+    pub words: Items<ScopeWord>,
+    pub kind: LinkKind,
+}
