@@ -140,3 +140,38 @@ impl Disk for FileDisk {
         }
     }
 }
+
+#[cfg(test)]
+mod tests {
+    use super::*;
+    use std::fs;
+    use std::test::Fail;
+
+    #[test]
+    fn bytes_lie_where_they_were_written(rt: HostRuntime) -> Result<(), Fail> {
+        let mut disk = FileDisk::create(&rt, "disk.bin");
+        assert_eq!(rt; disk.len(), Ok(0));
+        assert_eq!(rt; disk.write_at(0, b"abcdef"), Ok(()));
+        assert_eq!(rt; disk.write_at(4, b"XYZ"), Ok(()));
+        assert_eq!(rt; disk.sync(), Ok(()));
+        assert_eq!(rt; disk.len(), Ok(7));
+        assert_eq!(rt; disk.faults, 0);
+
+        let mut again = FileDisk::open(&rt, "disk.bin");
+        let mut piece = [0u8; 4];
+        assert_eq!(rt; again.read_at(2, &mut piece), Ok(4));
+        assert_eq!(rt; piece.as_slice(), b"cdXY".as_slice());
+        assert_eq!(rt; again.read_at(6, &mut piece), Ok(1));
+        assert_eq!(rt; piece.as_slice(), b"ZdXY".as_slice());
+        assert_eq!(rt; again.read_at(9, &mut piece), Ok(0));
+        fs::remove_file(&rt, "disk.bin")?;
+
+        let mut missing = FileDisk::open(&rt, "disk.bin");
+        assert_eq!(rt; missing.len(), Err(Failed));
+        assert_eq!(rt; missing.read_at(0, &mut piece), Err(Failed));
+        assert_eq!(rt; missing.write_at(0, b"a"), Err(Failed));
+        assert_eq!(rt; missing.sync(), Err(Failed));
+        assert_eq!(rt; missing.faults, 4);
+        Ok(())
+    }
+}

@@ -66,3 +66,28 @@ impl Source for FileSource {
         }
     }
 }
+
+#[cfg(test)]
+mod tests {
+    use super::*;
+    use std::fs;
+    use std::test::Fail;
+
+    #[test]
+    fn file_is_read_to_its_end(rt: HostRuntime) -> Result<(), Fail> {
+        fs::write(&rt, "source.bin", "seven b")?;
+        let mut source = FileSource::open(&rt, "source.bin");
+        let mut piece = [0u8; 4];
+        assert_eq!(rt; source.read(&mut piece), Ok(4));
+        assert_eq!(rt; piece.as_slice(), b"seve".as_slice());
+        assert_eq!(rt; source.read(&mut piece), Ok(3));
+        assert_eq!(rt; piece.as_slice(), b"n be".as_slice());
+        assert_eq!(rt; source.read(&mut piece), Ok(0));
+        assert_eq!(rt; source.faults, 0);
+        fs::remove_file(&rt, "source.bin")?;
+        let mut missing = FileSource::open(&rt, "source.bin");
+        assert_eq!(rt; missing.read(&mut piece), Err(Failed));
+        assert_eq!(rt; missing.faults, 1);
+        Ok(())
+    }
+}

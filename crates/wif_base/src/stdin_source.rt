@@ -37,3 +37,16 @@ impl<R: Read> Source for StdinSource<R> {
         }
     }
 }
+
+#[cfg(test)]
+mod tests {
+    use super::*;
+
+    #[test]
+    fn empty_input_is_at_its_end(rt: HostRuntime) {
+        let mut source = StdinSource::new(&rt);
+        let mut piece = [0u8; 4];
+        assert_eq!(rt; source.read(&mut piece), Ok(0));
+        assert_eq!(rt; source.faults, 0);
+    }
+}

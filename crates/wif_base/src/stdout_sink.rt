@@ -67,3 +67,26 @@ impl<W: Write> Sink for StdoutSink<W> {
         }
     }
 }
+
+#[cfg(test)]
+mod tests {
+    use super::*;
+    use std::io;
+
+    #[test]
+    fn output_is_taken_while_there_is_room(rt: HostRuntime) {
+        let mut output = StdoutSink::new(io::writer(&rt));
+        assert_eq!(rt; output.write(b"a line\n"), Ok(7));
+        assert_eq!(rt; output.flush(), Ok(()));
+        assert_eq!(rt; output.faults, 0);
+
+        let mut room = [0u8; 4];
+        let mut small = StdoutSink::new(room.as_mut_slice());
+        assert_eq!(rt; small.write(b"abc"), Ok(3));
+        assert_eq!(rt; small.write(b"de"), Ok(1));
+        assert_eq!(rt; small.write(b"e"), Err(Failed));
+        assert_eq!(rt; small.write(b""), Ok(0));
+        assert_eq!(rt; small.faults, 1);
+        assert_eq!(rt; room.as_slice(), b"abcd".as_slice());
+    }
+}

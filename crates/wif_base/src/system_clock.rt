@@ -50,3 +50,42 @@ impl<R: std::rt::Clock> Clock for SystemClock<R> {
         }
     }
 }
+
+#[cfg(test)]
+mod tests {
+    use super::*;
+    use std::io;
+    use std::time::Duration;
+
+    // A machine whose clock stands at so many seconds.
+    #[derive(Drop)]
+    struct StandsAt(u64);
+
+    impl std::rt::Clock for StandsAt {
+        fn monotonic(&self) -> io::Result<Duration> {
+            self.since_1970()
+        }
+
+        fn since_1970(&self) -> io::Result<Duration> {
+            Ok(Duration::from_secs(self.0))
+        }
+    }
+
+    #[test]
+    fn seconds_that_are_no_moment_are_faults(rt: HostRuntime) {
+        let start_of_2020 = 1_577_836_800;
+        let mut machine = SystemClock::new(&rt);
+        let now = machine.now();
+        assert!(rt; matches!(&now, Ok(at) if start_of_2020 <= *at && *at <= LAST_MOMENT));
+
+        for (seconds, answer, faults) in [
+            (0, Ok(0), 0),
+            (200_000_000_000, Ok(200_000_000_000), 0),
+            (200_000_000_001, Err(Failed), 1),
+        ] {
+            let mut clock = SystemClock::new(StandsAt(seconds));
+            assert_eq!(rt; clock.now(), answer);
+            assert_eq!(rt; clock.faults, faults);
+        }
+    }
+}

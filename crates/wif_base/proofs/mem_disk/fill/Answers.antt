@@ -16,5 +16,6 @@ loop-call-preserved c =
     ap (λ (l : List DiskCall). ranges [] l) (take_more calls k (Wrote 0 0) within) ∙ ranges-append (take k calls) (get_or calls k (Wrote 0 0) ∷ []) [] in
     record {
       length = c.apply.ensures.length;
+      kept = λ none. c.apply.ensures.kept none (c.loop-call.invariant.kept none);
       outside = subst (λ (r : List Range). SameOutside r c.apply.new.image c.args.bytes.now) (sym one_more) (c.apply.ensures.outside _ c.loop-call.invariant.outside);
     }
