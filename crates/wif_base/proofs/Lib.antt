@@ -1,6 +1,7 @@
 pub mod Images
 pub mod Known
 pub mod Moments
+mod Picks
 mod Prefixes
 mod Reading
 mod Replays

@@ -1,8 +1,8 @@
-ghost use Rattle.std.specs.Prelude.{◌≡◌, ◌≤◌, ◌<◌, ◌+◌, ◌-◌, ◌^◌, min, max, take, drop, Some, length, vec_len, vec_capacity, true, false, IfOk, IfSome, IsOk, IsErr, OnOk, OnErr, ℕ, [], ◌∷◌, List, slice_index};
+ghost use Rattle.std.specs.Prelude.{◌≡◌, ◌≢◌, ◌≤◌, ◌<◌, ◌+◌, ◌-◌, ◌^◌, min, max, take, drop, Some, length, vec_len, vec_capacity, true, false, IfOk, IfSome, IsOk, IsErr, OnOk, OnErr, ℕ, [], ◌∷◌, List, slice_index};
 ghost use Rattle.wif_base.specs.Causes.{HasCause};
 ghost use Rattle.wif_base.specs.Counts.{next_count, is_chosen, CountsFault};
 ghost use Rattle.wif_base.specs.Disk.{overwritten, MayLeave, IsOutside, Range, FailsWrite, told_written, told_synced};
-ghost use Rattle.wif_base.specs.Replay.{fresh, replayed, size_of, ranges, SameOutside};
+ghost use Rattle.wif_base.specs.Replay.{fresh, replayed, size_of, ranges, SameOutside, IsPicked};
 
 use crate::mem_source::copy_front;
 use crate::numbered::begin;
@@ -91,6 +91,7 @@ impl MemDisk {
 fn scramble(image: &mut [u8], at: u64, size: u64, pick: &[u8], next: usize)
     ensures length { length image.new ≡ length image.old }
     ensures kept { pick.now ≡ [] → image.new ≡ image.old }
+    ensures picked { pick.now ≢ [] → IsPicked ((record { start = at; size = size }) ∷ []) pick.now image.new }
     ensures outside { (i : ℕ) → IsOutside i (record { start = at; size = size }) → slice_index image.new i ≡ slice_index image.old i }
 {
     if pick.is_empty() {
@@ -123,6 +124,8 @@ impl MemDisk {
             length image.items ≡ min (told.now.synced + keep) (length told.now.bytes))) }
         ensures kept { pick.now ≡ [] → IfOk result (λ image. IfSome (⟦<MemDisk as Disk>⟧.told self.now) (λ told.
             image.items ≡ take (told.now.synced + keep) told.now.bytes)) }
+        ensures picked { pick.now ≢ [] → IfOk result (λ image. IfSome (⟦<MemDisk as Disk>⟧.told self.now) (λ told.
+            IsPicked told.now.pending pick.now image.items)) }
     {
         let mut image = self.bytes.to_vec(alloc)?;
         fill(&mut image, &self.bytes, &self.calls, pick);
@@ -142,6 +145,7 @@ fn apply(image: &mut [u8], bytes: &[u8], call: DiskCall, pick: &[u8], next: usiz
     requires { length image.old ≡ length bytes.now }
     ensures length { length image.new ≡ length bytes.now }
     ensures kept { pick.now ≡ [] → image.old ≡ bytes.now → image.new ≡ bytes.now }
+    ensures picked { pick.now ≢ [] → (before : List Range) → IsPicked before pick.now image.old → IsPicked (ranges before (call ∷ [])) pick.now image.new }
     ensures outside { (before : List Range) → SameOutside before image.old bytes.now → SameOutside (ranges before (call ∷ [])) image.new bytes.now }
 {
     match call {
@@ -155,6 +159,7 @@ fn fill(image: &mut [u8], bytes: &[u8], calls: &[DiskCall], pick: &[u8])
     requires { image.old ≡ bytes.now }
     ensures length { length image.new ≡ length bytes.now }
     ensures kept { pick.now ≡ [] → image.new ≡ bytes.now }
+    ensures picked { pick.now ≢ [] → IsPicked (ranges [] calls.now) pick.now image.new }
     ensures outside { SameOutside (ranges [] calls.now) image.new bytes.now }
 {
     let mut next = 0usize;
