@@ -1,6 +1,21 @@
 //! The journal's entries, the links that they record, and the state that they leave.
 #![tactic(auto)]
 
+mod config;
+mod entry;
+mod fault;
+mod key;
 mod link;
+mod prepared;
+mod read_config;
+mod source;
+mod state;
 
+pub use config::{Config, ConfigError, StartProvider};
+pub use entry::Entry;
+pub use fault::{ApplyFault, MapFault, RuleCode};
+pub use key::Key;
 pub use link::{Link, LinkKind, Source};
+pub use prepared::Prepared;
+pub use read_config::read_service_config;
+pub use state::State;

@@ -1,0 +1,12 @@
+use crate::{Entry, Link};
+use base_types::Text;
+
+/// An entry that a state licensed, with all that its recording needs.
+#[derive(Debug, Drop)]
+pub struct Prepared {
+    pub entry: Entry,
+    /// The link that it records, if it records one, with the payload of its token and its expiry.
+    pub link: Option<Link>,
+    pub payload: Option<Text>,
+    pub exp: Option<u64>,
+}
