@@ -2,5 +2,7 @@
 #![tactic(auto)]
 
 mod link;
+mod payload;
 
 pub use link::{Link, LinkKind, Source};
+pub use payload::write_payload;
