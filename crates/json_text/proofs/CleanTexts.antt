@@ -34,32 +34,32 @@ IsNumber-text (float x) h = absurd h
 
 -- ---- members that are put in order
 
-abbrev followed : Members → Members → Members
+abbrev pub followed : Members → Members → Members
 followed no_members ms = ms
 followed (member k d rest) ms = member k d (followed rest ms)
 
-followed-none : (ms : Members) → followed ms no_members ≡ ms
+pub followed-none : (ms : Members) → followed ms no_members ≡ ms
 followed-none no_members = refl
 followed-none (member k d ms) = ap (member k d) (followed-none ms)
 
-followed-more : (a : Members) (k : List ℕ) (d : Data) (ms : Members) → followed (followed a (member k d no_members)) ms ≡ followed a (member k d ms)
+pub followed-more : (a : Members) (k : List ℕ) (d : Data) (ms : Members) → followed (followed a (member k d no_members)) ms ≡ followed a (member k d ms)
 followed-more no_members k d ms = refl
 followed-more (member l e a) k d ms = ap (member l e) (followed-more a k d ms)
 
 -- each name of the first members is before each of the second
-abbrev AreBefore : Members → Members → Type 0
+abbrev pub AreBefore : Members → Members → Type 0
 AreBefore no_members ms = ⊤
 AreBefore (member k d rest) ms = AreAfter k ms × AreBefore rest ms
 
-AreBefore-tail : (a : Members) (k : List ℕ) (d : Data) (ms : Members) → AreBefore a (member k d ms) → AreBefore a ms
+pub AreBefore-tail : (a : Members) (k : List ℕ) (d : Data) (ms : Members) → AreBefore a (member k d ms) → AreBefore a ms
 AreBefore-tail no_members k d ms h = tt
 AreBefore-tail (member l e a) k d ms h = (h.0.1, AreBefore-tail a k d ms h.1)
 
-AreBefore-grown : (a : Members) (k : List ℕ) (d : Data) (ms : Members) → AreBefore a ms → AreAfter k ms → AreBefore (followed a (member k d no_members)) ms
+pub AreBefore-grown : (a : Members) (k : List ℕ) (d : Data) (ms : Members) → AreBefore a ms → AreAfter k ms → AreBefore (followed a (member k d no_members)) ms
 AreBefore-grown no_members k d ms h after = (after, tt)
 AreBefore-grown (member l e a) k d ms h after = (h.0, AreBefore-grown a k d ms h.1 after)
 
-put-last : (a : Members) (k : List ℕ) (d e : Data) (ms : Members) → AreBefore a (member k e ms) → put k d a ≡ followed a (member k d no_members)
+pub put-last : (a : Members) (k : List ℕ) (d e : Data) (ms : Members) → AreBefore a (member k e ms) → put k d a ≡ followed a (member k d no_members)
 put-last no_members k d e ms h = refl
 put-last (member l x a) k d e ms h =
     let above : slice_cmp nat_cmp k l ≡ Greater = nat_list_cmp_total.antisymm k l ∙ ap ordering_reverse h.0.0 in

@@ -6,6 +6,10 @@ use Rattle.serde_json.specs.Written.{compact_text}
 use Rattle.iam_names.specs.declared.who.Who.{Who}
 use Rattle.iam_names.specs.declared.who.Who.TheVariants.{Outside, Account}
 use Rattle.iam_names.specs.PoolName.{pool_text}
+use Rattle.links.specs.declared.link.Link.{Link}
+use Rattle.links.specs.declared.link.LinkKind.{LinkKind}
+use Rattle.links.specs.declared.link.LinkKind.TheVariants.{Federated}
+use Rattle.links.specs.Chain.{Own, Chain, Root, own_at}
 use Rattle.links.specs.Facts.{Facts, name_of}
 
 -- a member that may be left out
@@ -72,3 +76,11 @@ payload_data issuer facts = object (
 
 unfoldable pub payload_text : List ℕ → Facts → List ℕ
 payload_text issuer facts = compact_text (payload_data issuer facts)
+
+-- the chain of a link that was made from no other
+abbrev pub root_of : Own → LinkKind → Chain
+root_of o (Federated source) = Root o source
+
+-- the chain of link n
+abbrev pub link_chain : ℕ → Link → Chain
+link_chain n link = root_of (own_at n link) link.kind

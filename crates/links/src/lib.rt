@@ -10,6 +10,7 @@ mod prepared;
 mod read_config;
 mod source;
 mod state;
+mod payload;
 
 pub use config::{Config, ConfigError, StartProvider};
 pub use entry::Entry;
@@ -19,3 +20,4 @@ pub use link::{Link, LinkKind, Source};
 pub use prepared::Prepared;
 pub use read_config::read_service_config;
 pub use state::State;
+pub use payload::write_payload;
