@@ -1,2 +1,4 @@
 pub mod Floats
 pub mod Writing
+pub mod Chains
+mod Preparing

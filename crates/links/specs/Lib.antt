@@ -2,6 +2,7 @@ pub mod Chain
 pub mod Configuration
 pub mod Facts
 pub mod Licence
+pub mod Made
 pub mod Payload
 pub mod Reads
 pub mod Sources

@@ -14,7 +14,8 @@ use Rattle.links.specs.declared.prepared.Prepared.{Prepared}
 use Rattle.links.specs.Chain.{Chain}
 use Rattle.links.specs.Facts.{facts_of, exp_of}
 use Rattle.links.specs.Payload.{payload_text}
-use Rattle.links.specs.State.{Content, link_of, made, source_at, token_text, after}
+use Rattle.links.specs.Sources.{◌>>=◌, passed}
+use Rattle.links.specs.State.{Content, link_of, made, source_at, federated_link, token_text, after}
 
 -- the scope word that is there from the start
 abbrev pub cloud_platform : List ℕ
@@ -30,6 +31,11 @@ fault_of (Err rule) = Some rule
 abbrev pub is_long : Content → Option Chain → Bool
 is_long c None = true
 is_long c (Some chain) = nat_lt 8192 (length (token_text c chain))
+
+-- the link that the entry would record, or the first rule that comes before its token
+unfoldable pub licensed_link : Content → Entry → Result Link RuleCode
+licensed_link c (entry.Federated provider token scope at) =
+    passed (fails_if (not (list_all knows_word scope)) E11) (source_at c provider token at >>= (λ source. Ok (federated_link scope at source)))
 
 -- The first rule that forbids recording the entry, or none.
 unfoldable pub first_unlicensed : Content → Entry → Option RuleCode
@@ -52,6 +58,7 @@ prepared_of c e = record {
   entry = e;
   link = link_of c e;
   payload = option_map (λ chain. payload_text c.issuer (facts_of chain)) (made c e);
+  token = option_map (token_text c) (made c e);
   exp = option_map exp_of (made c e);
 }
 

@@ -5,8 +5,9 @@ use base_types::Text;
 #[derive(Debug, Drop)]
 pub struct Prepared {
     pub entry: Entry,
-    /// The link that it records, if it records one, with the payload of its token and its expiry.
+    /// The link that it records, if it records one, with its token's payload and text, and its expiry.
     pub link: Option<Link>,
     pub payload: Option<Text>,
+    pub token: Option<Text>,
     pub exp: Option<u64>,
 }

@@ -106,7 +106,7 @@ fn admit(
 }
 
 // The provider's full name.
-fn name_of(alloc: Global, provider: &StartProvider) -> Result<Text, AllocError>
+pub(crate) fn name_of(alloc: Global, provider: &StartProvider) -> Result<Text, AllocError>
     ensures { IfOk result (λ name. name ≡ audience_text (provider_name provider.now)) }
 {
     let name = Audience {
