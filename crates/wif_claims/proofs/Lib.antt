@@ -1,2 +1,3 @@
 pub mod ActorLists
+pub mod HeldForms
 pub mod Payloads

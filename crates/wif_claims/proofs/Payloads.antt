@@ -7,7 +7,7 @@ use Rattle.wif_claims.specs.declared.claims.Claims.{Claims}
 use Rattle.wif_claims.specs.declared.claims.ClaimFault.{ClaimFault}
 use Rattle.wif_claims.specs.declared.claims.ClaimFault.TheVariants.{Json, Memory}
 
-abbrev Answer : Type 0
+abbrev pub Answer : Type 0
 Answer = Result Claims ClaimFault
 
 -- the claims, or want of memory

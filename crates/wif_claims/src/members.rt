@@ -1,4 +1,5 @@
-ghost use Rattle.std.specs.Prelude.{◌≡◌, option_map, option_and_then, IfOk};
+ghost use Rattle.std.specs.Prelude.{◌≡◌, option_map, option_and_then, IfOk, IfSome, IsUtf8};
+ghost use Rattle.std.specs.List.{AllByRecursion};
 ghost use Rattle.serde_json.specs.View.{view};
 ghost use Rattle.wif_claims.specs.Payload.{date_of as date_member, optional_date as optional_date_member, audiences, actor_of, actors};
 
@@ -62,7 +63,8 @@ pub(crate) fn audiences_of(
 }
 
 fn actor_of_object(object: &Value) -> Option<&str>
-    ensures { option_map (λ text. text.now) result ≡ actor_of (view object.now) }
+    ensures found { option_map (λ text. text.now) result ≡ actor_of (view object.now) }
+    ensures utf8 { IfSome result (λ text. IsUtf8 text.now) }
 {
     let sub = text_at(object, "sub")?;
     if has_size(sub, 1, 1024) {
@@ -76,7 +78,8 @@ pub(crate) fn actors_of(
     alloc: Global,
     member: Option<&Value>,
 ) -> Result<Option<Items<Text>>, AllocError>
-    ensures { IfOk result (λ found. found ≡ actors 8 (option_map (λ v. view v.now) member.entry)) }
+    ensures found { IfOk result (λ found. found ≡ actors 8 (option_map (λ v. view v.now) member.entry)) }
+    ensures utf8 { IfOk result (λ found. IfSome found (λ texts. AllByRecursion IsUtf8 texts)) }
 {
     let mut found = Items::new(alloc);
     let mut left = member;

@@ -1,5 +1,7 @@
-ghost use Rattle.std.specs.Prelude.{◌≡◌, ◌≢◌, ◌⊎◌, Ok, Err, IfOk, IfErr};
+ghost use Rattle.std.specs.Prelude.{◌≡◌, ◌≢◌, ◌⊎◌, Ok, Err, IfOk, IfErr, IsUtf8};
+ghost use Rattle.std.specs.List.{AllByRecursion};
 ghost use Rattle.serde_json.specs.View.{view};
+ghost use Rattle.wif_claims.specs.Forms.{HasForms};
 ghost use Rattle.wif_claims.specs.Payload.{claims_of, claims_of_data};
 ghost use Rattle.wif_claims.specs.declared.claims.Claims.{Claims};
 ghost use Rattle.wif_claims.specs.declared.claims.ClaimFault.{ClaimFault};
@@ -22,7 +24,8 @@ impl From<AllocError> for ClaimFault {
 
 #[tactic(auto, unfolding(crate::specs::Payload::claims_of_data))]
 fn claims_of_value(alloc: Global, tree: &Value) -> Result<Claims, ClaimFault>
-    ensures { (result ≡ claims_of_data (view tree.now)) ⊎ (result ≡ Err ClaimFault.Memory) }
+    ensures exact { (result ≡ claims_of_data (view tree.now)) ⊎ (result ≡ Err ClaimFault.Memory) }
+    ensures utf8 { IfOk result (λ claims. AllByRecursion IsUtf8 claims.may_act) }
 {
     if !tree.is_object() {
         return Err(ClaimFault::NotObject);
@@ -62,6 +65,7 @@ pub fn read_claims(alloc: Global, payload: &[u8]) -> Result<Claims, ClaimFault>
     ensures read { IfOk result (λ claims. claims_of payload.now ≡ Ok claims) }
     ensures refused { IfErr result (λ fault. fault ≢ ClaimFault.Memory
         → claims_of payload.now ≡ Err fault) }
+    ensures forms { IfOk result HasForms }
 {
     match read_document(alloc, payload) {
         Ok(tree) => claims_of_value(alloc, &tree),
