@@ -74,7 +74,8 @@ impl<F: Form> Name<F> {
     }
 
     pub fn copy(&self, alloc: Global) -> Result<Self, AllocError>
-        ensures { IfOk result (λ name. name ≡ self.now) }
+        ensures copy { IfOk result (λ name. name ≡ self.now) }
+        ensures form { F.is_of_form self.now ≡ true }
     {
         let text = self.text.copy(alloc)?;
         Ok(Name {

@@ -25,7 +25,8 @@ pub(crate) struct PoolPath<'a> {
 }
 
 impl PoolName {
-    ghost use Rattle.std.specs.Prelude.{◌≡◌, IfOk};
+    ghost use Rattle.std.specs.Prelude.{◌≡◌, IfOk, true};
+    ghost use Rattle.iam_names.specs.Forms.{is_project, is_id};
     ghost use Rattle.iam_names.specs.PoolName.{pool_of, pool_of_text, pool_text, pool_path};
     ghost use Rattle.iam_names.specs.Reads.{ReadsName};
 
@@ -67,7 +68,9 @@ impl PoolName {
     }
 
     pub fn copy(&self, alloc: Global) -> Result<Self, AllocError>
-        ensures { IfOk result (λ name. name ≡ self.now) }
+        ensures copy { IfOk result (λ name. name ≡ self.now) }
+        ensures project { IfOk result (λ name. is_project name.project ≡ true) }
+        ensures pool { IfOk result (λ name. is_id name.pool ≡ true) }
     {
         let project = self.project.copy(alloc)?;
         let pool = self.pool.copy(alloc)?;
