@@ -12,7 +12,7 @@ use Rattle.iam_names.specs.Forms.{passes, is_id_byte, is_plain_byte, is_label, i
 use Rattle.iam_names.specs.Resource.{account_resource}
 use Rattle.iam_names.proofs.CutLemmas.{cut_at-sound}
 
-both : (a b : Bool) → (a && b) ≡ true → (a ≡ true) × (b ≡ true)
+pub both : (a b : Bool) → (a && b) ≡ true → (a ≡ true) × (b ≡ true)
 both true b h = (refl, h)
 both false b h = cc
 

@@ -1,3 +1,4 @@
 pub mod AccountLemmas
 pub mod CutLemmas
 pub mod PrintedLemmas
+pub mod ReadBackLemmas

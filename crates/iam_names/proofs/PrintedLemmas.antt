@@ -71,7 +71,7 @@ path_between f g text path h =
 regroup : (f a g b rest : List ℕ) → f ++ (a ++ 47 ∷ (g ++ (b ++ 47 ∷ rest))) ≡ (f ++ (a ++ 47 ∷ (g ++ b))) ++ 47 ∷ rest
 regroup f a g b rest = rw (append_assoc f, append_assoc a, append_assoc g) refl
 
-path_regroup : (name : PoolName) (rest : List ℕ) → codes "iam.googleapis.com/projects/" ++ (name.project ++ 47 ∷ (codes "locations/global/workloadIdentityPools/" ++ (name.pool ++ 47 ∷ rest))) ≡ pool_path name ++ 47 ∷ rest
+pub path_regroup : (name : PoolName) (rest : List ℕ) → codes "iam.googleapis.com/projects/" ++ (name.project ++ 47 ∷ (codes "locations/global/workloadIdentityPools/" ++ (name.pool ++ 47 ∷ rest))) ≡ pool_path name ++ 47 ∷ rest
 path_regroup name rest = regroup (codes "iam.googleapis.com/projects/") name.project (codes "locations/global/workloadIdentityPools/") name.pool rest
 
 -- a text that begins with a pool's path and a slash

@@ -1,5 +1,5 @@
 -- Members of bindings: whom they name, and their texts.
-use Rattle.std.specs.Prelude.{ℕ, List, ◌++◌, Bool, Option, None, Some, option_map, is_some, if◌then◌else◌, codes}
+use Rattle.std.specs.Prelude.{ℕ, List, ◌++◌, Bool, ◌&&◌, Option, None, Some, option_map, is_some, if◌then◌else◌, codes}
 use Rattle.std.specs.Option.{option_map_or}
 use Rattle.std.specs.List.{list_any}
 use Rattle.std.specs.Str.{bytes_eq}
@@ -9,7 +9,7 @@ use Rattle.json_text.specs.Reading.{◌>>=◌}
 use Rattle.iam_names.specs.Cuts.{after, cut_at}
 use Rattle.iam_names.specs.Forms.{passes, is_account, is_attribute_name}
 use Rattle.iam_names.specs.Parts.{path_parts, subject_at}
-use Rattle.iam_names.specs.PoolName.{pool_of, pool_path, same_pool}
+use Rattle.iam_names.specs.PoolName.{pool_of, pool_path, same_pool, is_pool_name}
 use Rattle.iam_names.specs.declared.pool_name.PoolName.{PoolName}
 use Rattle.iam_names.specs.declared.member.Member.{Member}
 use Rattle.iam_names.specs.declared.member.Member.TheVariants.{Principal, Group, Attribute, Pool, Account}
@@ -35,6 +35,14 @@ names_who (Group pool group) who = passes (λ (identity : Identity). list_any (b
 names_who (Attribute pool name value) who = passes (λ (identity : Identity). passes (bytes_eq value) (value_at name identity.attributes)) (identity_in pool who)
 names_who (Pool pool) who = is_some (identity_in pool who)
 names_who (Account account) who = passes (bytes_eq account) (account_in who)
+
+-- whether each part is of its form
+abbrev pub is_member : Member → Bool
+is_member (Principal pool subject) = is_pool_name pool && has_size 1 127 subject
+is_member (Group pool group) = is_pool_name pool && has_size 1 256 group
+is_member (Attribute pool name value) = is_pool_name pool && (is_attribute_name name && has_size 1 256 value)
+is_member (Pool pool) = is_pool_name pool
+is_member (Account account) = is_account account
 
 abbrev pub member_text : Member → List ℕ
 member_text (Principal pool subject) = codes "principal://" ++ (pool_path pool ++ (codes "/subject/" ++ subject))

@@ -10,6 +10,10 @@ use Rattle.iam_names.specs.declared.pool_name.PoolName.{PoolName}
 abbrev pub pool_of : List ℕ → List ℕ → Option PoolName
 pool_of project pool = if is_project project && is_id pool then Some (record { project = project; pool = pool }) else None
 
+-- whether both parts are of their forms
+abbrev pub is_pool_name : PoolName → Bool
+is_pool_name name = is_project name.project && is_id name.pool
+
 -- a pool as PROJECT/POOL
 abbrev pub pool_text : PoolName → List ℕ
 pool_text name = name.project ++ (codes "/" ++ name.pool)

@@ -8,11 +8,14 @@ mod cut;
 mod fault;
 mod forms;
 mod identity;
+mod laws;
 mod member;
 mod name;
 mod pool_name;
 mod resource;
 mod roles;
+#[cfg(test)]
+mod tests;
 mod who;
 
 pub use audience::Audience;
@@ -23,6 +26,7 @@ pub use forms::{
     ScopeWord, ScopeWordForm,
 };
 pub use identity::Identity;
+pub use laws::printed_names_read_back;
 pub use member::{Member, names_who};
 pub use name::{Form, Name};
 pub use pool_name::PoolName;
