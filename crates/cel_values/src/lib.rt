@@ -1,0 +1,6 @@
+//! The expression language's trees.
+#![tactic(auto)]
+
+mod expr;
+
+pub use expr::{BinaryOp, Expr, MacroKind, MapPair};
