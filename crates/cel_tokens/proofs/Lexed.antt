@@ -62,7 +62,7 @@ one_list (token w d) (token w' d') = let o = one_word w w' in let more = one_lis
 abbrev pub GoesOn : List ℕ → List ℕ → List Lexeme → Type 0
 GoesOn text rest tokens = (ts : List Lexeme) (stop : Option ℕ) → Lexes (length text - length rest) rest ts stop → Lexes 0 text (tokens ++ ts) stop
 
-shorter : (at : ℕ) (word : List ℕ) (p : Piece) → form at word ≡ Some p → 0 < length word
+pub shorter : (at : ℕ) (word : List ℕ) (p : Piece) → form at word ≡ Some p → 0 < length word
 shorter at [] p is = cc
 shorter at (b ∷ w) p is = omega arith
 

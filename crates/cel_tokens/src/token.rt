@@ -1,5 +1,8 @@
+ghost use Rattle.std.specs.Prelude.{◌≡◌, IfOk};
+
 use base_types::Text;
 use cel_values::BinaryOp;
+use std::alloc::{AllocError, Global};
 
 /// A form of bracket.
 #[derive(Clone, Copy, Debug, PartialEq, Eq)]
@@ -16,12 +19,35 @@ pub struct Name {
     pub text: Text,
 }
 
+impl Name {
+    pub fn copy(&self, alloc: Global) -> Result<Self, AllocError>
+        ensures { IfOk result (λ name. name ≡ self.now) }
+    {
+        Ok(Name {
+            at: self.at,
+            text: self.text.copy(alloc)?,
+        })
+    }
+}
+
 /// A literal other than an integer.
 #[derive(Debug, Drop)]
 pub enum Literal {
     Null,
     Bool(bool),
     Text(Text),
+}
+
+impl Literal {
+    pub fn copy(&self, alloc: Global) -> Result<Self, AllocError>
+        ensures { IfOk result (λ literal. literal ≡ self.now) }
+    {
+        match self {
+            Literal::Null => Ok(Literal::Null),
+            Literal::Bool(flag) => Ok(Literal::Bool(*flag)),
+            Literal::Text(text) => Ok(Literal::Text(text.copy(alloc)?)),
+        }
+    }
 }
 
 /// A token of an expression.
