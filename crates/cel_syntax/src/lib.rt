@@ -10,3 +10,6 @@ mod reader;
 pub use draft::{Draft, DraftPair};
 pub use error::{ParseError, SyntaxRule};
 pub use parser::{one_draft, parse_draft, viable_prefix};
+
+#[cfg(test)]
+mod tests;

@@ -1,6 +1,7 @@
-ghost use Rattle.std.specs.Prelude.{◌≡◌, ◌<◌, ◌^◌, [], ◌∷◌, ◌++◌, Some, None, drop, ℕ, List, IfOk, IfErr, false};
+ghost use Rattle.std.specs.Prelude.{◌≡◌, ◌<◌, ◌^◌, [], ◌∷◌, ◌++◌, Some, None, drop, ℕ, List, IfOk, IfErr, false, nat_le, if◌then◌else◌};
 ghost use Rattle.cel_tokens.specs.declared.token.Token.{Token as Symbol};
 ghost use Rattle.cel_syntax.specs.declared.draft.Draft.{Draft as Tree};
+ghost use Rattle.cel_syntax.specs.declared.error.SyntaxRule.TheVariants as RuleName;
 ghost use Rattle.cel_syntax.specs.declared.frames.Frame.{Frame as Opened};
 ghost use Rattle.cel_syntax.specs.Answer.{Gives, answer, closing, Advances};
 ghost use Rattle.cel_syntax.specs.Faults.{kinds, head, open_after, SpellsDraft, HasNoFault, IsErrorOf, IsDraftOf};
@@ -19,6 +20,10 @@ use cel_tokens::{Bracket, Lexeme, Token, lex};
 use std::alloc::Global;
 
 const MOST_BYTES: usize = 4_096;
+
+const MOST_TOKENS: usize = 512;
+
+const MOST_OPEN: usize = 32;
 
 /// The expression that a text spells, with every call as an ordinary call. An error is the first
 /// fault of the text, the faults of macros aside.
@@ -77,16 +82,14 @@ fn advance(
     requires { IsReadyFor (state_of place frames.old) (Some lexeme.now.token) }
     ensures { Advances lexeme.now limit (step (state_of place frames.old) lexeme.now.token) frames.new result }
 {
+    let at = lexeme.at;
     if let Some(rule) = limit {
-        return Err(ParseError::Fault {
-            at: lexeme.at,
-            rule,
-        });
+        return Err(ParseError::Fault { at, rule });
     }
     match take(alloc, frames, place, &lexeme.token)? {
         Some(next) => Ok(next),
         None => Err(ParseError::Fault {
-            at: lexeme.at,
+            at,
             rule: SyntaxRule::S1,
         }),
     }
@@ -152,29 +155,29 @@ fn broken(
     match token {
         Token::Integer(n) => {
             if out_of_range(*n, extended, signed) {
-                Some(SyntaxRule::L2)
-            } else if count >= 512 {
-                Some(SyntaxRule::S2)
-            } else {
-                None
+                return Some(SyntaxRule::L2);
             }
+            crowded(count)
         }
         Token::Open(_) => {
-            if count >= 512 {
-                Some(SyntaxRule::S2)
-            } else if deep >= 32 {
-                Some(SyntaxRule::S3)
-            } else {
-                None
+            let limit = crowded(count);
+            if limit.is_none() && deep >= MOST_OPEN {
+                return Some(SyntaxRule::S3);
             }
+            limit
         }
-        _ => {
-            if count >= 512 {
-                Some(SyntaxRule::S2)
-            } else {
-                None
-            }
-        }
+        _ => crowded(count),
+    }
+}
+
+// The limit on how many tokens stand before one.
+fn crowded(count: usize) -> Option<SyntaxRule>
+    ensures { result ≡ (if nat_le 512 count then Some RuleName.S2 else None) }
+{
+    if count >= MOST_TOKENS {
+        Some(SyntaxRule::S2)
+    } else {
+        None
     }
 }
 

@@ -2,7 +2,7 @@ ghost use Rattle.std.specs.Prelude.{◌≡◌, ◌<◌, IfOk, OnOk, option_map, 
 ghost use Rattle.cel_tokens.specs.Words.{next_move as move_of, escaped as escape_of, pointed as point_of, between, added, digit_moved, raw_move as raw_move_of, text_move as text_move_of};
 ghost use Rattle.cel_tokens.specs.declared.quoted.Mode.{Mode};
 
-use crate::runs::{hex_value, is_hex, is_quote};
+use crate::runs::{hex_value, is_hex, is_line_end, is_quote};
 use std::alloc::{AllocError, Global};
 
 /// A form of text.
@@ -90,7 +90,7 @@ fn raw_move(quote: u8, byte: u8) -> Move
 {
     if byte == quote {
         Move::Done
-    } else if byte == 10 || byte == 13 {
+    } else if is_line_end(byte) {
         Move::Stop
     } else {
         Move::On(Mode::Plain, Added::Byte(byte))
@@ -117,7 +117,7 @@ fn plain_move(quote: u8, byte: u8) -> Move
 {
     if byte == quote {
         Move::Done
-    } else if byte == 10 || byte == 13 {
+    } else if is_line_end(byte) {
         Move::Stop
     } else if byte == b'\\' {
         Move::On(Mode::Escape, Added::Nothing)

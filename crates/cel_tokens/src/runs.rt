@@ -1,5 +1,5 @@
 ghost use Rattle.std.specs.Prelude.{◌≡◌, take, drop};
-ghost use Rattle.cel_tokens.specs.Words.{is_digit as digit_test, is_letter as letter_test, is_name_byte as name_test, is_hex as hex_test, is_quote as quote_test, is_blank as blank_test, hex_value as value_of_hex};
+ghost use Rattle.cel_tokens.specs.Words.{is_digit as digit_test, is_letter as letter_test, is_name_byte as name_test, is_hex as hex_test, is_quote as quote_test, is_blank as blank_test, is_line_end as line_end_test, hex_value as value_of_hex};
 ghost use Rattle.cel_tokens.specs.FirstWord.{is_of, while_front};
 
 /// A kind of bytes that a word has in a run.
@@ -43,6 +43,13 @@ pub fn is_blank(byte: u8) -> bool
     byte == b' ' || byte == 9 || byte == 10 || byte == 12 || byte == 13
 }
 
+/// LF or CR.
+pub fn is_line_end(byte: u8) -> bool
+    ensures { result ≡ line_end_test byte }
+{
+    byte == 10 || byte == 13
+}
+
 pub fn is_kind(kind: ByteKind, byte: u8) -> bool
     ensures { result ≡ is_of kind byte }
 {
@@ -50,7 +57,7 @@ pub fn is_kind(kind: ByteKind, byte: u8) -> bool
         ByteKind::NameByte => is_letter(byte) || is_digit(byte),
         ByteKind::Digit => is_digit(byte),
         ByteKind::Hex => is_hex(byte),
-        ByteKind::InLine => !(byte == 10 || byte == 13),
+        ByteKind::InLine => !is_line_end(byte),
     }
 }
 
