@@ -47,7 +47,11 @@ fn shape(alloc: Global, e: &Draft) -> Result<String, AllocError> {
             let field = name.text.as_str();
             format!(in alloc; "(. {part} {field})")
         }
-        Draft::Index(a, b) => two_shapes(alloc, "at", a.get(), b.get()),
+        Draft::Index(a, b) => {
+            let left = shape(alloc, a.get())?;
+            let right = shape(alloc, b.get())?;
+            format!(in alloc; "(at {left} {right})")
+        }
         Draft::Call(name, items) => all_shapes(alloc, name.text.as_str(), items.as_slice()),
         Draft::Method(e, name, items) => {
             let part = shape(alloc, e.get())?;
@@ -56,11 +60,17 @@ fn shape(alloc: Global, e: &Draft) -> Result<String, AllocError> {
         }
         Draft::Not(e) => one_shape(alloc, "not", e.get()),
         Draft::Neg(e) => one_shape(alloc, "neg", e.get()),
-        Draft::Binary(op, a, b) => two_shapes(alloc, sign(*op), a.get(), b.get()),
+        Draft::Binary(op, a, b) => {
+            let word = sign(*op);
+            let left = shape(alloc, a.get())?;
+            let right = shape(alloc, b.get())?;
+            format!(in alloc; "({word} {left} {right})")
+        }
         Draft::Cond(c, a, b) => {
             let part = shape(alloc, c.get())?;
-            let rest = two_shapes(alloc, ":", a.get(), b.get())?;
-            format!(in alloc; "(? {part} {rest})")
+            let left = shape(alloc, a.get())?;
+            let right = shape(alloc, b.get())?;
+            format!(in alloc; "(? {part} (: {left} {right}))")
         }
     }
 }
@@ -69,13 +79,6 @@ fn shape(alloc: Global, e: &Draft) -> Result<String, AllocError> {
 fn one_shape(alloc: Global, word: &str, e: &Draft) -> Result<String, AllocError> {
     let part = shape(alloc, e)?;
     format!(in alloc; "({word} {part})")
-}
-
-#[cycle(shape)]
-fn two_shapes(alloc: Global, word: &str, a: &Draft, b: &Draft) -> Result<String, AllocError> {
-    let left = shape(alloc, a)?;
-    let right = shape(alloc, b)?;
-    format!(in alloc; "({word} {left} {right})")
 }
 
 #[cycle(shape)]

@@ -10,3 +10,6 @@ mod words;
 
 pub use lexer::{Lexing, lex, longest_word, one_lexing};
 pub use token::{Bracket, Lexeme, Literal, Name, Token};
+
+#[cfg(test)]
+mod tests;
