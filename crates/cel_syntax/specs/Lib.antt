@@ -6,3 +6,4 @@ pub mod Places
 pub mod Due
 pub mod Ready
 pub mod Answer
+pub mod Macros
