@@ -1,10 +1,12 @@
-//! Values of the expression language, and the value that a JSON value gives.
+//! Values of the expression language, the value that a JSON value gives, and the language's trees.
 #![tactic(auto)]
 
 mod conversion;
+mod expr;
 #[cfg(test)]
 mod tests;
 mod value;
 
 pub use conversion::from_json;
+pub use expr::{BinaryOp, Expr, MacroKind, MapPair};
 pub use value::{MapEntry, Value};

@@ -1,0 +1,5 @@
+pub mod Numbers
+pub mod Fronts
+pub mod Ascii
+pub mod Longest
+pub mod Lexed

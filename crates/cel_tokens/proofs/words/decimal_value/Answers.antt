@@ -1,0 +1,13 @@
+use Rattle.std.proofs.Common.{arith, ◌∙◌, refl}
+use Rattle.cel_tokens.specs.Words.{decimal_number}
+use Rattle.cel_tokens.proofs.Numbers.{decimal_more, number_end}
+use Rattle.cel_tokens.proofs.words.decimal_value.Goals as goal
+
+pub loop-digit-preserved : goal.loop-digit-preserved
+loop-digit-preserved c = record {
+  same = decimal_more c.args.digits.now c.loop-digit.digit-index c.loop-digit.value c.saturating_add-value.result (omega arith) (cc) ∙ c.loop-digit.invariant.same;
+  small = omega arith;
+}
+
+pub returns : goal.returns
+returns c = number_end decimal_number c.args.digits.now c.loop-digit.digit-index c.loop-digit.value (λ n. refl) (omega arith) (omega arith) c.loop-digit.invariant.same

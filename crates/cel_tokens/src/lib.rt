@@ -1,0 +1,15 @@
+//! The tokens of the expression language: the longest that fit, with their places in the text.
+#![tactic(auto)]
+
+mod lexer;
+mod quoted;
+mod runs;
+mod signs;
+mod token;
+mod words;
+
+pub use lexer::{Lexing, lex, longest_word, one_lexing};
+pub use token::{Bracket, Lexeme, Literal, Name, Token};
+
+#[cfg(test)]
+mod tests;
