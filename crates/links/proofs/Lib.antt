@@ -1,2 +1,6 @@
+pub mod Clean
+pub mod ExactTexts
 pub mod Floats
+pub mod GoodLinks
+pub mod Utf8
 pub mod Writing

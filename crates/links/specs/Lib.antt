@@ -1,3 +1,4 @@
 pub mod Chain
+pub mod Exact
 pub mod Facts
 pub mod Payload

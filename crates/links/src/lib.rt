@@ -1,8 +1,10 @@
 //! The journal's entries, the links that they record, and the state that they leave.
 #![tactic(auto)]
 
+mod laws;
 mod link;
 mod payload;
 
+pub use laws::{good_link_has_exact_facts, payload_tells_its_number};
 pub use link::{Link, LinkKind, Source};
 pub use payload::write_payload;
