@@ -4,6 +4,8 @@
 mod laws;
 mod link;
 mod payload;
+#[cfg(test)]
+mod tests;
 
 pub use laws::{good_link_has_exact_facts, payload_tells_its_number};
 pub use link::{Link, LinkKind, Source};
