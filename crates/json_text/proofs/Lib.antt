@@ -1,3 +1,4 @@
+pub mod Bytes
 pub mod CleanTexts
 pub mod Documents
 pub mod ReadingFacts

@@ -1,4 +1,8 @@
+pub mod Clean
+pub mod ExactTexts
 pub mod Floats
+pub mod GoodLinks
+pub mod Utf8
 pub mod Writing
 pub mod Chains
 mod Preparing

@@ -1,5 +1,6 @@
 pub mod Chain
 pub mod Configuration
+pub mod Exact
 pub mod Facts
 pub mod Licence
 pub mod Made

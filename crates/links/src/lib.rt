@@ -5,6 +5,7 @@ mod config;
 mod entry;
 mod fault;
 mod key;
+mod laws;
 mod link;
 mod recording;
 mod prepared;
@@ -12,11 +13,14 @@ mod read_config;
 mod source;
 mod state;
 mod payload;
+#[cfg(test)]
+mod tests;
 
 pub use config::{Config, ConfigError, StartProvider};
 pub use entry::Entry;
 pub use fault::{ApplyFault, MapFault, RuleCode};
 pub use key::Key;
+pub use laws::{good_link_has_exact_facts, payload_tells_its_number};
 pub use link::{Link, LinkKind, Source};
 pub use recording::{CLOUD_PLATFORM, commit, prepare};
 pub use prepared::Prepared;

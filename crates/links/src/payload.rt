@@ -13,7 +13,7 @@ use iam_names::{Identity, PoolName, ScopeWord};
 use serde_json::{Map, Value};
 use std::alloc::{AllocError, Global};
 
-/// In seconds.
+/// How long a token lasts at most, in seconds.
 const MAX_LIFETIME: u64 = 3600;
 
 /// Words with one space between.
@@ -71,6 +71,7 @@ fn actors_value(alloc: Global, names: &[Text]) -> Result<Option<Value>, AllocErr
 fn attributes_value(alloc: Global, attributes: &TextMap<Text>) -> Result<Value, AllocError>
     ensures { IfOk result (λ value. view value ≡ object (attributes_data attributes.now)) }
 {
+    // Its contract says that the names rise.
     let _ = attributes.len();
     let mut members = Map::new(alloc);
     for (name, value) in attributes.iter() {

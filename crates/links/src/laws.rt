@@ -1,0 +1,25 @@
+ghost use Rattle.std.specs.Prelude.{◌≡◌, ◌<◌, ◌^◌, ℕ, List, Some, IsUtf8, option_and_then, codes};
+ghost use Rattle.std.specs.Fmt.{decimal};
+ghost use Rattle.base64.specs.GeneralPurpose.{IsBytes};
+ghost use Rattle.json_text.specs.Document.{document, text_at};
+ghost use Rattle.links.specs.declared.link.Link.{Link};
+ghost use Rattle.links.specs.Exact.{IsExact, IsGoodLink};
+ghost use Rattle.links.specs.Facts.{Facts, facts_of};
+ghost use Rattle.links.specs.Payload.{payload_data, payload_text, link_chain};
+
+/// A law: the payload of exact facts is UTF-8, reads back as its tree, and has the link's number as its
+/// `jti`.
+pub fn payload_tells_its_number()
+    ensures utf8 { (issuer : List ℕ) (facts : Facts) → IsExact issuer facts → IsUtf8 (payload_text issuer facts) }
+    ensures bytes { (issuer : List ℕ) (facts : Facts) → IsExact issuer facts → IsBytes (payload_text issuer facts) }
+    ensures tree { (issuer : List ℕ) (facts : Facts) → IsExact issuer facts
+        → document (payload_text issuer facts) ≡ Some (payload_data issuer facts) }
+    ensures number { (issuer : List ℕ) (facts : Facts) → IsExact issuer facts
+        → option_and_then (text_at (codes "jti")) (document (payload_text issuer facts)) ≡ Some (decimal facts.number) }
+{}
+
+/// A law: a good link has exact facts, whatever its number below 2^32.
+pub fn good_link_has_exact_facts()
+    ensures { (issuer : List ℕ) (number : ℕ) (link : Link) → number < 2 ^ 32 → IsUtf8 issuer → IsGoodLink link
+        → IsExact issuer (facts_of (link_chain number link)) }
+{}
