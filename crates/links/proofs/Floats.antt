@@ -7,6 +7,7 @@ use Rattle.serde_json.specs.Written.{has_float, items_have_float, members_have_f
 use Rattle.iam_names.specs.declared.who.Who.{Who}
 use Rattle.iam_names.specs.declared.who.Who.TheVariants.{Outside, Account}
 use Rattle.iam_names.specs.PoolName.{pool_text}
+use Rattle.links.specs.Active.{active_data}
 use Rattle.links.specs.Facts.{Facts, name_of}
 use Rattle.links.specs.Payload.{optional, items, nested, words_text, last_words, attributes_data, who_data, wif_data, payload_data}
 
@@ -58,3 +59,8 @@ payload_floatless issuer facts =
     (member (codes "exp") (number (unsigned facts.exp)) (member (codes "iat") (number (unsigned facts.at)) (member (codes "iss") (string issuer) (member (codes "jti") (string (decimal facts.number)) (optional (codes "may_act") (nested (codes "may_act") facts.may_act) tail)))))
     (nested_floatless (codes "act") facts.act)
     may_act
+
+-- nor of what an introspection tells
+pub active_floatless : (issuer : List ℕ) (facts : Facts) → has_float (active_data issuer facts) ≡ false
+unfolding active_data
+active_floatless issuer facts = optional_floatless (codes "act") (nested (codes "act") facts.act) _ (nested_floatless (codes "act") facts.act) refl

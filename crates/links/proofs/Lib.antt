@@ -6,3 +6,5 @@ pub mod Utf8
 pub mod Writing
 pub mod Chains
 mod Preparing
+mod Places
+pub mod Issuing

@@ -1,4 +1,7 @@
+pub mod Active
 pub mod Chain
+pub mod Entries
+pub mod Issued
 pub mod Configuration
 pub mod Exact
 pub mod Facts

@@ -1,10 +1,14 @@
 //! The journal's entries, the links that they record, and the state that they leave.
 #![tactic(auto)]
 
+mod active;
 mod config;
+#[cfg(test)]
+mod config_tests;
 mod entry;
 mod fault;
 mod key;
+mod issued;
 mod laws;
 mod link;
 mod recording;
@@ -16,6 +20,8 @@ mod payload;
 #[cfg(test)]
 mod tests;
 
+pub use active::write_active;
+pub use issued::find_issued;
 pub use config::{Config, ConfigError, StartProvider};
 pub use entry::Entry;
 pub use fault::{ApplyFault, MapFault, RuleCode};

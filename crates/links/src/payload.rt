@@ -17,7 +17,7 @@ use std::alloc::{AllocError, Global};
 const MAX_LIFETIME: u64 = 3600;
 
 /// Words with one space between.
-fn words_text(alloc: Global, words: &[ScopeWord]) -> Result<Text, AllocError>
+pub(crate) fn words_text(alloc: Global, words: &[ScopeWord]) -> Result<Text, AllocError>
     ensures { IfOk result (λ text. text ≡ joined words.now) }
 {
     let mut text = String::new(alloc);
@@ -32,7 +32,7 @@ fn words_text(alloc: Global, words: &[ScopeWord]) -> Result<Text, AllocError>
     Ok(Text::new(text))
 }
 
-fn put_text(
+pub(crate) fn put_text(
     alloc: Global,
     members: &mut Map<String, Value>,
     name: &str,
@@ -131,7 +131,7 @@ fn wif_value(alloc: Global, link: &Link, source: &Source) -> Result<Value, Alloc
     Ok(Value::Object(members))
 }
 
-fn subject_name(alloc: Global, source: &Source) -> Result<Text, AllocError>
+pub(crate) fn subject_name(alloc: Global, source: &Source) -> Result<Text, AllocError>
     ensures { IfOk result (λ text. text ≡ name_of (Who.Outside source.now.pool source.now.identity)) }
 {
     let path = source.pool.path(alloc)?;

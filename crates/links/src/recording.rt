@@ -1,5 +1,8 @@
-ghost use Rattle.std.specs.Prelude.{◌≡◌, ◌≤◌, ◌<◌, ◌-◌, ◌^◌, ℕ, IfOk, OnOk, length, not, nat_lt};
-ghost use Rattle.std.specs.List.{list_all};
+ghost use Rattle.std.specs.Prelude.{◌≡◌, ◌≤◌, ◌<◌, ◌-◌, ◌^◌, ℕ, IfOk, OnOk, IfSome, true, length, not, nat_lt};
+ghost use Rattle.std.specs.List.{list_all, AllByRecursion};
+ghost use Rattle.iam_names.specs.Forms.{is_scope_word};
+ghost use Rattle.links.specs.Exact.{IsGoodLink, IsGoodSource};
+ghost use Rattle.links.specs.Entries.{IsEntry};
 ghost use Rattle.hmac_jws.specs.Compact.{compact};
 ghost use Rattle.std.specs.Str.{bytes_eq};
 ghost use Rattle.json_text.specs.Rules.{fails_if};
@@ -28,8 +31,10 @@ const TOKEN_LIMIT: usize = 8192;
 
 /// Looks whether the state licenses an entry, and makes all that its recording needs. It changes no content.
 pub fn prepare(alloc: Global, state: &mut State, entry: Entry) -> Result<Prepared, ApplyFault>
-    requires { length state.old.content.entries < 2 ^ 32 - 1 }
+    requires room { length state.old.content.entries < 2 ^ 32 - 1 }
+    requires form { IsEntry entry }
     ensures prepared { Prepares state.old.content entry result }
+    ensures good { IfOk result (λ prepared. IfSome prepared.link IsGoodLink) }
     ensures content { state.new.content ≡ state.old.content }
     ensures room { OnOk result (1 ≤ state.new.spare) }
 {
@@ -65,8 +70,10 @@ fn prepared(entry: Entry, made: Made) -> Prepared
 
 #[tactic(auto, unfolding(crate::specs::Made::made_of))]
 fn make(alloc: Global, state: &State, entry: &Entry) -> Result<Made, ApplyFault>
-    requires { length state.now.content.entries < 2 ^ 32 - 1 }
-    ensures { Gives (λ made. made) result (made_of state.now.content entry.now) }
+    requires room { length state.now.content.entries < 2 ^ 32 - 1 }
+    requires form { IsEntry entry.now }
+    ensures gives { Gives (λ made. made) result (made_of state.now.content entry.now) }
+    ensures good { IfOk result (λ made. IsGoodLink made.link) }
 {
     let link = link_for(alloc, state, entry)?;
     let payload = payload_of(alloc, state, &link)?;
@@ -91,6 +98,7 @@ fn payload_of(alloc: Global, state: &State, link: &Link) -> Result<Text, AllocEr
 /// Records what was prepared in this state. It takes no memory.
 pub fn commit(state: &mut State, prepared: Prepared)
     requires prepared { prepared ≡ prepared_of state.old.content prepared.entry }
+    requires good { IfSome prepared.link IsGoodLink }
     requires room { 1 ≤ state.old.spare }
     ensures { state.new.content ≡ after state.old.content prepared.entry }
 {
@@ -109,7 +117,9 @@ fn next_number(state: &State) -> u32
 // The link that an entry would record.
 #[tactic(auto, unfolding(crate::specs::Licence::licensed_link))]
 fn link_for(alloc: Global, state: &State, entry: &Entry) -> Result<Link, ApplyFault>
-    ensures { Gives (λ link. link) result (licensed_link state.now.content entry.now) }
+    requires { IsEntry entry.now }
+    ensures gives { Gives (λ link. link) result (licensed_link state.now.content entry.now) }
+    ensures good { IfOk result IsGoodLink }
 {
     match entry {
         Entry::Federated {
@@ -154,7 +164,8 @@ fn is_known(word: &ScopeWord) -> bool
 }
 
 fn copy_words(alloc: Global, words: &[ScopeWord]) -> Result<Items<ScopeWord>, AllocError>
-    ensures { IfOk result (λ copy. copy ≡ words.now) }
+    ensures copy { IfOk result (λ copy. copy ≡ words.now) }
+    ensures form { IfOk result (AllByRecursion (λ word. is_scope_word word ≡ true)) }
 {
     let mut copy = Items::new(alloc);
     for word in words {
@@ -170,7 +181,8 @@ fn source_in(
     token: &str,
     at: u64,
 ) -> Result<Source, ApplyFault>
-    ensures { Gives (λ source. source) result (source_at state.now.content provider.now token.now at) }
+    ensures gives { Gives (λ source. source) result (source_at state.now.content provider.now token.now at) }
+    ensures good { IfOk result IsGoodSource }
 {
     let provider = provider_named(alloc, state, provider)?;
     read_source(alloc, provider, token, at)

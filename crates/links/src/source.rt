@@ -1,7 +1,9 @@
-ghost use Rattle.std.specs.Prelude.{◌≡◌, ◌++◌, ◌||◌, Some, IfOk, codes, option_map};
+ghost use Rattle.std.specs.Prelude.{◌≡◌, ◌++◌, ◌||◌, Some, IfOk, IsUtf8, codes, option_map};
 ghost use Rattle.hmac_jws.specs.Verified.{payload_of};
 ghost use Rattle.std.specs.List.{list_any};
 ghost use Rattle.std.specs.Str.{bytes_eq};
+ghost use Rattle.wif_claims.specs.Forms.{HasForms};
+ghost use Rattle.links.specs.Exact.{IsGoodSource};
 ghost use Rattle.links.specs.Reads.{Gives, Passes};
 ghost use Rattle.links.specs.Sources.{source_of, source_of_claims, first_admission_fault, opened, claimed_by, accepts, is_acceptable, subject_claim, subject_by, text_of_value, value_under, value_in, provider_name, timing_fault};
 ghost use Rattle.wif_claims.specs.Payload.{claims_of};
@@ -30,7 +32,8 @@ pub(crate) fn read_source(
     token: &str,
     at: u64,
 ) -> Result<Source, ApplyFault>
-    ensures { Gives (λ source. source) result (source_of provider.now token.now at) }
+    ensures gives { Gives (λ source. source) result (source_of provider.now token.now at) }
+    ensures good { IfOk result IsGoodSource }
 {
     let verified = open(alloc, provider, token)?;
     let claims = claims_from(alloc, &verified)?;
@@ -48,7 +51,8 @@ fn open(alloc: Global, provider: &StartProvider, token: &str) -> Result<Verified
 }
 
 fn claims_from(alloc: Global, verified: &Verified) -> Result<Claims, ApplyFault>
-    ensures { Gives (λ claims. claims) result (claimed_by (claims_of verified.now.payload)) }
+    ensures gives { Gives (λ claims. claims) result (claimed_by (claims_of verified.now.payload)) }
+    ensures forms { IfOk result HasForms }
 {
     match read_claims(alloc, verified.payload.as_slice()) {
         Ok(claims) => Ok(claims),
@@ -64,7 +68,9 @@ fn source_from(
     claims: Claims,
     at: u64,
 ) -> Result<Source, ApplyFault>
-    ensures { Gives (λ source. source) result (source_of_claims provider.now claims at) }
+    requires { HasForms claims }
+    ensures gives { Gives (λ source. source) result (source_of_claims provider.now claims at) }
+    ensures good { IfOk result IsGoodSource }
 {
     admit(alloc, provider, &claims, at)?;
     let subject = subject_of(alloc, &claims)?;
@@ -142,7 +148,8 @@ fn is_one_of(text: &str, one: &str, other: &str) -> bool
 
 // A copy of the claim `sub`.
 fn subject_of(alloc: Global, claims: &Claims) -> Result<Text, ApplyFault>
-    ensures { Gives (λ subject. subject) result (subject_by (subject_claim claims.now)) }
+    ensures gives { Gives (λ subject. subject) result (subject_by (subject_claim claims.now)) }
+    ensures utf8 { IfOk result IsUtf8 }
 {
     match value_at(&claims.tree, "sub").and_then(text_in) {
         None => Err(unlicensed(RuleCode::E19(MapFault::Subject))),
@@ -151,7 +158,8 @@ fn subject_of(alloc: Global, claims: &Claims) -> Result<Text, ApplyFault>
 }
 
 fn sized_subject(alloc: Global, subject: &str) -> Result<Text, ApplyFault>
-    ensures { Gives (λ subject. subject) result (subject_by (Some subject.now)) }
+    ensures gives { Gives (λ subject. subject) result (subject_by (Some subject.now)) }
+    ensures utf8 { IfOk result IsUtf8 }
 {
     if subject.is_empty() {
         return Err(unlicensed(RuleCode::E19(MapFault::Subject)));

@@ -15,6 +15,8 @@ pub struct State {
 
 impl Model for State {
     ghost use Rattle.std.specs.Prelude.{◌≤◌, ◌-◌, min, length, vec_len, vec_capacity};
+    ghost use Rattle.std.specs.List.{AllByRecursion};
+    ghost use Rattle.links.specs.Exact.{IsGoodLink};
     ghost use Rattle.links.specs.State.{Content, Kept};
 
     ghost Value = { Kept };
@@ -24,12 +26,14 @@ impl Model for State {
       spare = min (vec_capacity s.entries - vec_len s.entries) (vec_capacity s.links - vec_len s.links);
     } };
 
-    ghost invariant = { λ s. vec_len s.links ≤ vec_len s.entries };
+    ghost invariant = { λ s. (vec_len s.links ≤ vec_len s.entries) × AllByRecursion IsGoodLink s.links.items };
 }
 
 impl State {
-    ghost use Rattle.std.specs.Prelude.{◌≡◌, ◌≤◌, ◌<◌, ◌++◌, ◌∷◌, [], length, IfOk, OnOk};
+    ghost use Rattle.std.specs.Prelude.{◌≡◌, ◌≤◌, ◌<◌, ◌++◌, ◌∷◌, [], length, IfOk, OnOk, IfSome};
     ghost use Rattle.std.specs.Option.{option_copied};
+    ghost use Rattle.std.specs.List.{AllByRecursion};
+    ghost use Rattle.links.specs.Exact.{IsGoodLink};
     ghost use Rattle.links.specs.State.{start_of, with_link};
 
     /// The state of a configuration before the first entry.
@@ -69,7 +73,8 @@ impl State {
     }
 
     pub fn links(&self) -> &[Link]
-        ensures { result.now ≡ self.now.content.links }
+        ensures links { result.now ≡ self.now.content.links }
+        ensures good { AllByRecursion IsGoodLink self.now.content.links }
     {
         self.links.as_slice()
     }
@@ -94,7 +99,8 @@ impl State {
 
     /// Puts an entry and its link behind the others.
     pub(crate) fn push(&mut self, entry: Entry, link: Option<Link>)
-        requires { 1 ≤ self.old.spare }
+        requires room { 1 ≤ self.old.spare }
+        requires good { IfSome link IsGoodLink }
         ensures entries { self.new.content.entries ≡ self.old.content.entries ++ entry ∷ [] }
         ensures links { self.new.content.links ≡ with_link self.old.content.links link }
         ensures issuer { self.new.content.issuer ≡ self.old.content.issuer }
