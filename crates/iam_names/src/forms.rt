@@ -10,8 +10,8 @@ use crate::name::{Form, Name};
 use json_text::has_size;
 
 /// The form of a project's number.
-#[derive(Debug, Drop)]
-pub enum ProjectForm {}
+#[derive(Clone, Copy, Debug)]
+pub struct ProjectForm;
 
 impl Form for ProjectForm {
     ghost use Rattle.iam_names.specs.Forms.{is_project};
@@ -27,8 +27,8 @@ impl Form for ProjectForm {
 pub type Project = Name<ProjectForm>;
 
 /// The form of a pool's or a provider's own name.
-#[derive(Debug, Drop)]
-pub enum PoolIdForm {}
+#[derive(Clone, Copy, Debug)]
+pub struct PoolIdForm;
 
 impl Form for PoolIdForm {
     ghost use Rattle.iam_names.specs.Forms.{is_id};
@@ -47,8 +47,8 @@ pub type PoolId = Name<PoolIdForm>;
 pub type ProviderId = Name<PoolIdForm>;
 
 /// The form of a service account.
-#[derive(Debug, Drop)]
-pub enum AccountForm {}
+#[derive(Clone, Copy, Debug)]
+pub struct AccountForm;
 
 impl Form for AccountForm {
     ghost use Rattle.iam_names.specs.Forms.{is_account};
@@ -67,8 +67,8 @@ impl Form for AccountForm {
 pub type Account = Name<AccountForm>;
 
 /// The form of a resource.
-#[derive(Debug, Drop)]
-pub enum ResourceForm {}
+#[derive(Clone, Copy, Debug)]
+pub struct ResourceForm;
 
 impl Form for ResourceForm {
     ghost use Rattle.iam_names.specs.Forms.{is_resource};
@@ -84,8 +84,8 @@ impl Form for ResourceForm {
 pub type Resource = Name<ResourceForm>;
 
 /// The form of a permission.
-#[derive(Debug, Drop)]
-pub enum PermissionForm {}
+#[derive(Clone, Copy, Debug)]
+pub struct PermissionForm;
 
 impl Form for PermissionForm {
     ghost use Rattle.iam_names.specs.Forms.{is_permission};
@@ -101,8 +101,8 @@ impl Form for PermissionForm {
 pub type Permission = Name<PermissionForm>;
 
 /// The form of a role.
-#[derive(Debug, Drop)]
-pub enum RoleForm {}
+#[derive(Clone, Copy, Debug)]
+pub struct RoleForm;
 
 impl Form for RoleForm {
     ghost use Rattle.iam_names.specs.Forms.{is_role};
@@ -121,8 +121,8 @@ impl Form for RoleForm {
 pub type Role = Name<RoleForm>;
 
 /// The form of a scope word.
-#[derive(Debug, Drop)]
-pub enum ScopeWordForm {}
+#[derive(Clone, Copy, Debug)]
+pub struct ScopeWordForm;
 
 impl Form for ScopeWordForm {
     ghost use Rattle.iam_names.specs.Forms.{is_scope_word};
@@ -138,8 +138,8 @@ impl Form for ScopeWordForm {
 pub type ScopeWord = Name<ScopeWordForm>;
 
 /// The form of an attribute's name.
-#[derive(Debug, Drop)]
-pub enum AttributeForm {}
+#[derive(Clone, Copy, Debug)]
+pub struct AttributeForm;
 
 impl Form for AttributeForm {
     ghost use Rattle.iam_names.specs.Forms.{is_attribute_name};
