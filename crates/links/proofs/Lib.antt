@@ -4,3 +4,5 @@ pub mod Floats
 pub mod GoodLinks
 pub mod Utf8
 pub mod Writing
+pub mod Chains
+mod Preparing

@@ -1,4 +1,10 @@
 pub mod Chain
 pub mod Exact
+pub mod Configuration
 pub mod Facts
+pub mod Licence
+pub mod Made
 pub mod Payload
+pub mod Reads
+pub mod Sources
+pub mod State

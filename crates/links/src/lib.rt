@@ -2,11 +2,28 @@
 #![tactic(auto)]
 
 mod laws;
+mod config;
+mod entry;
+mod fault;
+mod key;
 mod link;
+mod recording;
+mod prepared;
+mod read_config;
+mod source;
+mod state;
 mod payload;
 #[cfg(test)]
 mod tests;
 
 pub use laws::{good_link_has_exact_facts, payload_tells_its_number};
+pub use config::{Config, ConfigError, StartProvider};
+pub use entry::Entry;
+pub use fault::{ApplyFault, MapFault, RuleCode};
+pub use key::Key;
 pub use link::{Link, LinkKind, Source};
+pub use recording::{CLOUD_PLATFORM, commit, prepare};
+pub use prepared::Prepared;
+pub use read_config::read_service_config;
+pub use state::State;
 pub use payload::write_payload;

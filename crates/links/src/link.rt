@@ -1,3 +1,7 @@
+ghost use Rattle.std.specs.Prelude.{◌≡◌, ℕ};
+ghost use Rattle.links.specs.Facts.{exp_of};
+ghost use Rattle.links.specs.Payload.{link_chain};
+
 use base_types::{Items, Text};
 use iam_names::{Identity, PoolName, ScopeWord};
 
@@ -25,4 +29,16 @@ pub struct Link {
     pub at: u64,
     pub words: Items<ScopeWord>,
     pub kind: LinkKind,
+}
+
+impl Link {
+    /// The moment from which on the link isn't live: that of the outside token, and at most 3,600 seconds after the
+    /// exchange.
+    pub fn exp(&self) -> u64
+        ensures { (number : ℕ) → result ≡ exp_of (link_chain number self.now) }
+    {
+        match &self.kind {
+            LinkKind::Federated(source) => source.exp.min(self.at.saturating_add(3600)),
+        }
+    }
 }

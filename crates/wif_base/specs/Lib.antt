@@ -1,5 +1,6 @@
 pub mod Carried
 pub mod Causes
+pub mod Counts
 pub mod Disk
 pub mod Output
 pub mod Replay

@@ -128,3 +128,24 @@ fn remove_front(bytes: &mut Vec<u8>, count: usize)
     bytes.copy_within(count.., 0);
     bytes.truncate(left);
 }
+
+#[cfg(test)]
+mod tests {
+    use super::*;
+    use crate::MemSource;
+    use std::test::Fail;
+
+    #[test]
+    fn stream_is_taken_piece_by_piece(rt: HostRuntime) -> Result<(), Fail> {
+        let bytes = b"abcde".to_vec(rt.alloc())?;
+        let mut input = MemSource::new(bytes, [1].to_vec(rt.alloc())?);
+        let mut carry = Carry::new(rt.alloc());
+        assert_eq!(rt; carry.take_more(&mut input), More::Some);
+        let count = carry.unused().len().min(3);
+        carry.use_up(count);
+        assert_eq!(rt; carry.take_more(&mut input), More::Failed);
+        assert_eq!(rt; carry.take_more(&mut input), More::End);
+        assert_eq!(rt; carry.unused(), b"de".as_slice());
+        Ok(())
+    }
+}

@@ -1,0 +1,120 @@
+-- What an outside token gives under a provider, or the first rule that it fails.
+use Rattle.std.specs.Prelude.{ℕ, List, [], ◌∷◌, ◌++◌, length, codes, Bool, not, ◌||◌, Option, None, Some, option_and_then, nat_lt, is_none, Result, Ok, Err, if◌then◌else◌}
+use Rattle.std.specs.List.{list_any, find}
+use Rattle.std.specs.Str.{bytes_eq}
+use Rattle.json_text.specs.Rules.{fails_if, first_of}
+use Rattle.hmac_jws.specs.Verified.{first_jws_fault, payload_of}
+use Rattle.hmac_jws.specs.declared.fault.JwsFault.{JwsFault}
+use Rattle.cel_values.specs.declared.value.Value.{Value, out-Value}
+use Rattle.cel_values.specs.declared.value.Value.TheOpen.{Value-F}
+use Rattle.cel_values.specs.declared.value.MapEntry.{MapEntry}
+use Rattle.wif_claims.specs.declared.claims.Claims.{Claims}
+use Rattle.wif_claims.specs.declared.claims.ClaimFault.{ClaimFault}
+use Rattle.wif_claims.specs.declared.claims.When.{When}
+use Rattle.wif_claims.specs.declared.claims.When.TheVariants.{Live, Expired as IsExpired, NotYet as IsNotYet}
+use Rattle.wif_claims.specs.Payload.{claims_of}
+use Rattle.wif_claims.specs.Timing.{timing_of}
+use Rattle.iam_names.specs.declared.audience.Audience.{Audience}
+use Rattle.iam_names.specs.Audience.{audience_text}
+use Rattle.links.specs.declared.config.StartProvider.{StartProvider}
+use Rattle.links.specs.declared.fault.MapFault.{MapFault}
+use Rattle.links.specs.declared.fault.MapFault.TheVariants.{Issuer, Audience as NoAudience, Expired, NotYet, Subject, TooLong}
+use Rattle.links.specs.declared.fault.RuleCode.{RuleCode}
+use Rattle.links.specs.declared.fault.RuleCode.TheVariants.{E16, E17, E18, E19}
+use Rattle.links.specs.declared.link.Source.{Source}
+
+-- what a step gives, or the rule that it fails
+infixl 10 ◌>>=◌
+abbrev pub ◌>>=◌ : {X Y : Type 0} → Result X RuleCode → (X → Result Y RuleCode) → Result Y RuleCode
+(Ok x) >>= next = next x
+(Err rule) >>= next = Err rule
+
+-- the provider's full name
+abbrev pub provider_name : StartProvider → Audience
+provider_name provider = record { pool = provider.pool; provider = provider.id }
+
+-- ---- the signature and the claims
+
+abbrev pub opened_by : Option JwsFault → List ℕ → Result (List ℕ) RuleCode
+opened_by None payload = Ok payload
+opened_by (Some fault) payload = Err (E16 fault)
+
+-- the payload of a token that is signed under the key
+abbrev pub opened : List ℕ → List ℕ → Result (List ℕ) RuleCode
+opened key token = opened_by (first_jws_fault key token) (payload_of token)
+
+abbrev pub claimed_by : Result Claims ClaimFault → Result Claims RuleCode
+claimed_by (Ok claims) = Ok claims
+claimed_by (Err fault) = Err (E17 fault)
+
+-- ---- the provider's rules
+
+-- the provider's name, or `https:` followed by it
+abbrev pub is_acceptable : List ℕ → List ℕ → Bool
+is_acceptable name audience = bytes_eq audience name || bytes_eq audience (codes "https:" ++ name)
+
+abbrev pub accepts : StartProvider → List (List ℕ) → Bool
+accepts provider audiences = list_any (is_acceptable (audience_text (provider_name provider))) audiences
+
+abbrev pub timing_fault : When → Option RuleCode
+timing_fault Live = None
+timing_fault IsExpired = Some (E18 Expired)
+timing_fault IsNotYet = Some (E18 NotYet)
+
+-- what stands under a key
+abbrev pub value_in : List MapEntry → List ℕ → Option Value
+value_in [] key = None
+value_in (entry ∷ entries) key = if bytes_eq entry.key key then Some entry.value else value_in entries key
+
+abbrev pub text_of_value : Value → Option (List ℕ)
+text_of_value v = text (out-Value v)
+  where
+    text : Value-F Value MapEntry → Option (List ℕ)
+    text (Value-F.Text t) = Some t
+    text _ = None
+
+abbrev pub value_under : Value → List ℕ → Option Value
+value_under v key = under (out-Value v)
+  where
+    under : Value-F Value MapEntry → Option Value
+    under (Value-F.Map entries) = value_in entries key
+    under _ = None
+
+-- the claim `sub` as a text, where it is one
+abbrev pub subject_claim : Claims → Option (List ℕ)
+subject_claim claims = option_and_then text_of_value (value_under claims.tree (codes "sub"))
+
+-- a subject has 1 to 127 bytes
+abbrev pub subject_by : Option (List ℕ) → Result (List ℕ) RuleCode
+subject_by None = Err (E19 Subject)
+subject_by (Some subject) =
+    if not (nat_lt 0 (length subject)) then Err (E19 Subject)
+    else (if nat_lt 127 (length subject) then Err (E19 (TooLong (codes "google.subject"))) else Ok subject)
+
+-- the first rule of the provider that comes before the identity
+unfoldable pub first_admission_fault : StartProvider → Claims → ℕ → Option RuleCode
+first_admission_fault provider claims at = first_of (
+    fails_if (not (bytes_eq claims.iss provider.issuer)) (E18 Issuer) ∷
+    fails_if (not (accepts provider claims.aud)) (E18 NoAudience) ∷
+    timing_fault (timing_of claims at) ∷ [])
+
+abbrev pub passed : {X : Type 0} → Option RuleCode → Result X RuleCode → Result X RuleCode
+passed None next = next
+passed (Some rule) next = Err rule
+
+-- the mapping of the provider: `google.subject` is `assertion.sub`, and nothing else is mapped
+abbrev pub source_by : StartProvider → Claims → List ℕ → Source
+source_by provider claims subject = record {
+  pool = provider.pool;
+  identity = record { subject = subject; groups = []; attributes = [] };
+  exp = claims.exp;
+  may_act = claims.may_act;
+}
+
+unfoldable pub source_of_claims : StartProvider → Claims → ℕ → Result Source RuleCode
+source_of_claims provider claims at =
+    passed (first_admission_fault provider claims at) (subject_by (subject_claim claims) >>= (λ subject. Ok (source_by provider claims subject)))
+
+-- what the token gives at the moment, or the first rule that it fails
+unfoldable pub source_of : StartProvider → List ℕ → ℕ → Result Source RuleCode
+source_of provider token at = opened provider.key token >>= (λ payload. claimed_by (claims_of payload) >>= (λ claims. source_of_claims provider claims at))

@@ -1,0 +1,87 @@
+-- The state that a journal's entries leave.
+use Rattle.std.specs.Prelude.{◌≡◌, ℕ, List, [], ◌∷◌, ◌++◌, length, Option, None, Some, option_map, nat_lt, Bool, Result, Ok, Err, if◌then◌else◌}
+use Rattle.std.specs.Result.{result_ok}
+use Rattle.std.specs.Str.{bytes_eq}
+use Rattle.hmac_jws.specs.Compact.{compact}
+use Rattle.iam_names.specs.declared.audience.Audience.{Audience}
+use Rattle.iam_names.specs.Audience.{audience_text}
+use Rattle.links.specs.declared.config.Config.{Config}
+use Rattle.links.specs.declared.config.StartProvider.{StartProvider}
+use Rattle.links.specs.declared.entry.Entry.{Entry}
+use Rattle.links.specs.declared.entry.Entry.TheVariants as entry
+use Rattle.links.specs.declared.fault.RuleCode.{RuleCode}
+use Rattle.links.specs.declared.fault.RuleCode.TheVariants.{E14}
+use Rattle.links.specs.declared.link.Link.{Link}
+use Rattle.links.specs.declared.link.LinkKind.TheVariants as kind
+use Rattle.links.specs.declared.link.Source.{Source}
+use Rattle.links.specs.Chain.{Chain, chains_of, chain_at, next_chain}
+use Rattle.links.specs.Facts.{facts_of, exp_of}
+use Rattle.links.specs.Payload.{payload_text}
+use Rattle.links.specs.Sources.{◌>>=◌, source_of, provider_name}
+
+-- The issuer and the key of the tokens that are issued, the provider that is there from the start, the entries, and the
+-- links that they recorded.
+pub record Content : Type 0 where
+  pub issuer : List ℕ
+  pub key : List ℕ
+  pub start : Option StartProvider
+  pub entries : List Entry
+  pub links : List Link
+
+-- the content, and how many entries more there is room for
+pub record Kept : Type 0 where
+  pub content : Content
+  pub spare : ℕ
+
+-- the state before the first entry
+abbrev pub start_of : Config → Content
+start_of config = record { issuer = config.issuer; key = config.key; start = config.start; entries = []; links = [] }
+
+-- the provider of that name
+abbrev pub named : Option StartProvider → Audience → Result StartProvider RuleCode
+named None name = Err E14
+named (Some provider) name = if bytes_eq (audience_text (provider_name provider)) (audience_text name) then Ok provider else Err E14
+
+-- what the outside token gives, or the first rule that it fails
+abbrev pub source_at : Content → Audience → List ℕ → ℕ → Result Source RuleCode
+source_at c provider token at = named c.start provider >>= (λ p. source_of p token at)
+
+abbrev pub federated_link : List (List ℕ) → ℕ → Source → Link
+federated_link words at source = record { at = at; words = words; kind = kind.Federated source }
+
+-- the link that an entry records
+abbrev pub link_of : Content → Entry → Option Link
+link_of c (entry.Federated provider token scope at) = option_map (federated_link scope at) (result_ok (source_at c provider token at))
+
+abbrev pub with_link : List Link → Option Link → List Link
+with_link links None = links
+with_link links (Some link) = links ++ link ∷ []
+
+-- the state after an entry
+abbrev pub after : Content → Entry → Content
+after c e = record { issuer = c.issuer; key = c.key; start = c.start; entries = c.entries ++ e ∷ []; links = with_link c.links (link_of c e) }
+
+-- the state after these entries
+abbrev pub state_after : Content → List Entry → Content
+state_after c [] = c
+state_after c (e ∷ es) = state_after (after c e) es
+
+-- the chain of link n, where there is one
+abbrev pub chain : Content → ℕ → Option Chain
+chain c n = chain_at (chains_of c.links) n
+
+-- the chain of the link that the entry would record
+abbrev pub made_by : Content → Option Link → Option Chain
+made_by c None = None
+made_by c (Some link) = next_chain (chains_of c.links) link
+
+abbrev pub made : Content → Entry → Option Chain
+made c e = made_by c (link_of c e)
+
+-- the text of a link's token
+unfoldable pub token_text : Content → Chain → List ℕ
+token_text c chain = compact c.key (payload_text c.issuer (facts_of chain))
+
+-- a link is live at a moment
+abbrev pub live : Content → Chain → ℕ → Bool
+live c chain at = nat_lt at (exp_of chain)

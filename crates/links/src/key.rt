@@ -1,0 +1,51 @@
+use base_types::Bytes;
+use std::alloc::{AllocError, Global};
+use std::marker::Model;
+
+/// A key of HS256 (RFC 7518, section 3.2), of 32 to 128 bytes, which contracts see as its bytes.
+#[derive(Debug, Drop)]
+pub struct Key {
+    bytes: Bytes,
+}
+
+impl Model for Key {
+    ghost use Rattle.std.specs.Prelude.{ℕ, List, ◌≤◌, length};
+
+    ghost Value = { List ℕ };
+
+    ghost view = { λ key. key.bytes };
+
+    ghost invariant = { λ key. (32 ≤ length key.bytes) × (length key.bytes ≤ 128) };
+}
+
+impl Key {
+    ghost use Rattle.std.specs.Prelude.{◌≡◌, ◌≤◌, IfOk, length};
+    ghost use Rattle.json_text.specs.Forms.{has_size, passing};
+
+    /// The key of these bytes, where they are so many.
+    pub fn new(bytes: Bytes) -> Option<Self>
+        ensures { result ≡ passing (has_size 32 128) bytes }
+    {
+        let size = bytes.as_slice().len();
+        if 32 <= size && size <= 128 {
+            Some(Key { bytes })
+        } else {
+            None
+        }
+    }
+
+    pub fn as_slice(&self) -> &[u8]
+        ensures bytes { result.now ≡ self.now }
+        ensures enough { 32 ≤ length self.now }
+    {
+        self.bytes.as_slice()
+    }
+
+    pub fn copy(&self, alloc: Global) -> Result<Self, AllocError>
+        ensures { IfOk result (λ key. key ≡ self.now) }
+    {
+        Ok(Key {
+            bytes: self.bytes.copy(alloc)?,
+        })
+    }
+}

@@ -1,0 +1,223 @@
+ghost use Rattle.std.specs.Prelude.{◌≡◌, ◌≤◌, ◌<◌, ◌-◌, ◌^◌, ℕ, IfOk, OnOk, length, not, nat_lt};
+ghost use Rattle.std.specs.List.{list_all};
+ghost use Rattle.hmac_jws.specs.Compact.{compact};
+ghost use Rattle.std.specs.Str.{bytes_eq};
+ghost use Rattle.json_text.specs.Rules.{fails_if};
+ghost use Rattle.iam_names.specs.Audience.{audience_text};
+ghost use Rattle.links.specs.declared.fault.RuleCode.TheVariants.{E11};
+ghost use Rattle.links.specs.Made.{made_of, next_payload, sized as sized_token};
+ghost use Rattle.links.specs.Facts.{facts_of, exp_of};
+ghost use Rattle.links.specs.Licence.{Prepares, prepared_of, licensed_link, knows_word};
+ghost use Rattle.links.specs.Payload.{link_chain, payload_text};
+ghost use Rattle.links.specs.Reads.{Gives, Passes};
+ghost use Rattle.links.specs.Sources.{provider_name};
+ghost use Rattle.links.specs.State.{source_at, named, after, token_text};
+
+use crate::payload::write_payload;
+use crate::source::{name_of, read_source};
+use crate::{ApplyFault, Entry, Link, LinkKind, Prepared, RuleCode, Source, StartProvider, State};
+use base_types::{Items, Text};
+use hmac_jws::sign;
+use iam_names::{Audience, ScopeWord};
+use std::alloc::{AllocError, Global};
+
+/// The scope word that is there from the start, for all permissions.
+pub const CLOUD_PLATFORM: &str = "https://www.googleapis.com/auth/cloud-platform";
+
+const TOKEN_LIMIT: usize = 8192;
+
+/// Looks whether the state licenses an entry, and makes all that its recording needs. It changes no content.
+pub fn prepare(alloc: Global, state: &mut State, entry: Entry) -> Result<Prepared, ApplyFault>
+    requires { length state.old.content.entries < 2 ^ 32 - 1 }
+    ensures prepared { Prepares state.old.content entry result }
+    ensures content { state.new.content ≡ state.old.content }
+    ensures room { OnOk result (1 ≤ state.new.spare) }
+{
+    match make(alloc, state, &entry) {
+        Ok(made) => {
+            state.make_room()?;
+            Ok(prepared(entry, made))
+        }
+        Err(fault) => Err(fault),
+    }
+}
+
+// What the recording of a link needs.
+#[derive(Debug, Drop)]
+pub(crate) struct Made {
+    pub(crate) link: Link,
+    pub(crate) payload: Text,
+    pub(crate) token: Text,
+    pub(crate) exp: u64,
+}
+
+fn prepared(entry: Entry, made: Made) -> Prepared
+    ensures { result ≡ record { entry = entry; link = Some made.link; payload = Some made.payload; token = Some made.token; exp = Some made.exp } }
+{
+    Prepared {
+        entry,
+        link: Some(made.link),
+        payload: Some(made.payload),
+        token: Some(made.token),
+        exp: Some(made.exp),
+    }
+}
+
+#[tactic(auto, unfolding(crate::specs::Made::made_of))]
+fn make(alloc: Global, state: &State, entry: &Entry) -> Result<Made, ApplyFault>
+    requires { length state.now.content.entries < 2 ^ 32 - 1 }
+    ensures { Gives (λ made. made) result (made_of state.now.content entry.now) }
+{
+    let link = link_for(alloc, state, entry)?;
+    let payload = payload_of(alloc, state, &link)?;
+    let token = token_of(alloc, state, &payload)?;
+    let token = sized(token)?;
+    let exp = link.exp();
+    Ok(Made {
+        link,
+        payload,
+        token,
+        exp,
+    })
+}
+
+fn payload_of(alloc: Global, state: &State, link: &Link) -> Result<Text, AllocError>
+    requires { length state.now.content.entries < 2 ^ 32 - 1 }
+    ensures { IfOk result (λ payload. payload ≡ next_payload state.now.content link.now) }
+{
+    write_payload(alloc, state.issuer(), next_number(state), link)
+}
+
+/// Records what was prepared in this state. It takes no memory.
+pub fn commit(state: &mut State, prepared: Prepared)
+    requires prepared { prepared ≡ prepared_of state.old.content prepared.entry }
+    requires room { 1 ≤ state.old.spare }
+    ensures { state.new.content ≡ after state.old.content prepared.entry }
+{
+    state.push(prepared.entry, prepared.link);
+}
+
+// The number of the next link.
+fn next_number(state: &State) -> u32
+    requires { length state.now.content.entries < 2 ^ 32 - 1 }
+    ensures { result ≡ length state.now.content.links }
+{
+    let _count = state.entry_count();
+    state.links().len() as u32
+}
+
+// The link that an entry would record.
+#[tactic(auto, unfolding(crate::specs::Licence::licensed_link))]
+fn link_for(alloc: Global, state: &State, entry: &Entry) -> Result<Link, ApplyFault>
+    ensures { Gives (λ link. link) result (licensed_link state.now.content entry.now) }
+{
+    match entry {
+        Entry::Federated {
+            provider,
+            token,
+            scope,
+            at,
+        } => {
+            check_words(scope.as_slice())?;
+            let source = source_in(alloc, state, provider, token.as_str(), *at)?;
+            let words = copy_words(alloc, scope.as_slice())?;
+            Ok(Link {
+                at: *at,
+                words,
+                kind: LinkKind::Federated(source),
+            })
+        }
+    }
+}
+
+fn check_words(words: &[ScopeWord]) -> Result<(), ApplyFault>
+    ensures { Passes result (fails_if (not (list_all knows_word words.now)) E11) }
+{
+    if knows_words(words) {
+        return Ok(());
+    }
+    Err(ApplyFault::Unlicensed {
+        rule: RuleCode::E11,
+    })
+}
+
+fn knows_words(words: &[ScopeWord]) -> bool
+    ensures { result ≡ list_all knows_word words.now }
+{
+    words.iter().all(|word| is_known(word))
+}
+
+fn is_known(word: &ScopeWord) -> bool
+    ensures { result ≡ knows_word word.now }
+{
+    word.as_str() == CLOUD_PLATFORM
+}
+
+fn copy_words(alloc: Global, words: &[ScopeWord]) -> Result<Items<ScopeWord>, AllocError>
+    ensures { IfOk result (λ copy. copy ≡ words.now) }
+{
+    let mut copy = Items::new(alloc);
+    for word in words {
+        copy.push(word.copy(alloc)?)?;
+    }
+    Ok(copy)
+}
+
+fn source_in(
+    alloc: Global,
+    state: &State,
+    provider: &Audience,
+    token: &str,
+    at: u64,
+) -> Result<Source, ApplyFault>
+    ensures { Gives (λ source. source) result (source_at state.now.content provider.now token.now at) }
+{
+    let provider = provider_named(alloc, state, provider)?;
+    read_source(alloc, provider, token, at)
+}
+
+fn provider_named<'a>(
+    alloc: Global,
+    state: &'a State,
+    name: &Audience,
+) -> Result<&'a StartProvider, ApplyFault>
+    ensures { Gives (λ provider. provider.now) result (named state.now.content.start name.now) }
+{
+    let Some(provider) = state.start_provider() else {
+        return Err(ApplyFault::Unlicensed {
+            rule: RuleCode::E14,
+        });
+    };
+    if has_name(alloc, provider, name)? {
+        return Ok(provider);
+    }
+    Err(ApplyFault::Unlicensed {
+        rule: RuleCode::E14,
+    })
+}
+
+fn has_name(alloc: Global, provider: &StartProvider, name: &Audience) -> Result<bool, AllocError>
+    ensures { IfOk result (λ same. same ≡ bytes_eq (audience_text (provider_name provider.now)) (audience_text name.now)) }
+{
+    let own = name_of(alloc, provider)?;
+    let other = name.print(alloc)?;
+    Ok(own.as_str() == other.as_str())
+}
+
+// The token of a payload under the state's key.
+fn token_of(alloc: Global, state: &State, payload: &Text) -> Result<Text, AllocError>
+    ensures { IfOk result (λ token. token ≡ compact state.now.content.key payload.now) }
+{
+    Ok(Text::new(sign(alloc, state.key(), payload.as_str().as_bytes())?))
+}
+
+fn sized(token: Text) -> Result<Text, ApplyFault>
+    ensures { Gives (λ token. token) result (sized_token token) }
+{
+    if token.as_str().len() > TOKEN_LIMIT {
+        return Err(ApplyFault::Unlicensed {
+            rule: RuleCode::E25,
+        });
+    }
+    Ok(token)
+}

@@ -1,0 +1,193 @@
+ghost use Rattle.std.specs.Prelude.{◌≡◌, ◌++◌, ◌||◌, Some, IfOk, codes, option_map};
+ghost use Rattle.hmac_jws.specs.Verified.{payload_of};
+ghost use Rattle.std.specs.List.{list_any};
+ghost use Rattle.std.specs.Str.{bytes_eq};
+ghost use Rattle.links.specs.Reads.{Gives, Passes};
+ghost use Rattle.links.specs.Sources.{source_of, source_of_claims, first_admission_fault, opened, claimed_by, accepts, is_acceptable, subject_claim, subject_by, text_of_value, value_under, value_in, provider_name, timing_fault};
+ghost use Rattle.wif_claims.specs.Payload.{claims_of};
+ghost use Rattle.wif_claims.specs.Timing.{timing_of};
+ghost use Rattle.iam_names.specs.Audience.{audience_text};
+
+use crate::{ApplyFault, MapFault, RuleCode, Source, StartProvider};
+use base_types::{Items, Text, TextMap};
+use cel_values::{MapEntry, Value};
+use hmac_jws::{JwsFault, Verified, verify};
+use iam_names::{Audience, Identity};
+use std::alloc::{AllocError, Global};
+use wif_claims::{ClaimFault, Claims, When, read_claims, timing};
+
+fn unlicensed(rule: RuleCode) -> ApplyFault
+    ensures { result ≡ ApplyFault.Unlicensed rule }
+{
+    ApplyFault::Unlicensed { rule }
+}
+
+/// What an outside token gives under the provider at a moment.
+#[tactic(auto, unfolding(crate::specs::Sources::source_of))]
+pub(crate) fn read_source(
+    alloc: Global,
+    provider: &StartProvider,
+    token: &str,
+    at: u64,
+) -> Result<Source, ApplyFault>
+    ensures { Gives (λ source. source) result (source_of provider.now token.now at) }
+{
+    let verified = open(alloc, provider, token)?;
+    let claims = claims_from(alloc, &verified)?;
+    source_from(alloc, provider, claims, at)
+}
+
+fn open(alloc: Global, provider: &StartProvider, token: &str) -> Result<Verified, ApplyFault>
+    ensures { Gives (λ verified. verified.payload) result (opened provider.now.key token.now) }
+{
+    match verify(alloc, provider.key.as_slice(), token) {
+        Ok(verified) => Ok(verified),
+        Err(JwsFault::Memory) => Err(ApplyFault::Memory),
+        Err(fault) => Err(unlicensed(RuleCode::E16(fault))),
+    }
+}
+
+fn claims_from(alloc: Global, verified: &Verified) -> Result<Claims, ApplyFault>
+    ensures { Gives (λ claims. claims) result (claimed_by (claims_of verified.now.payload)) }
+{
+    match read_claims(alloc, verified.payload.as_slice()) {
+        Ok(claims) => Ok(claims),
+        Err(ClaimFault::Memory) => Err(ApplyFault::Memory),
+        Err(fault) => Err(unlicensed(RuleCode::E17(fault))),
+    }
+}
+
+#[tactic(auto, unfolding(crate::specs::Sources::source_of_claims))]
+fn source_from(
+    alloc: Global,
+    provider: &StartProvider,
+    claims: Claims,
+    at: u64,
+) -> Result<Source, ApplyFault>
+    ensures { Gives (λ source. source) result (source_of_claims provider.now claims at) }
+{
+    admit(alloc, provider, &claims, at)?;
+    let subject = subject_of(alloc, &claims)?;
+    let identity = Identity {
+        subject,
+        groups: Items::new(alloc),
+        attributes: TextMap::new(alloc),
+    };
+    Ok(Source {
+        pool: provider.pool.copy(alloc)?,
+        identity,
+        exp: claims.exp,
+        may_act: claims.may_act,
+    })
+}
+
+// The rules that come before the identity.
+#[tactic(auto, unfolding(crate::specs::Sources::first_admission_fault))]
+fn admit(
+    alloc: Global,
+    provider: &StartProvider,
+    claims: &Claims,
+    at: u64,
+) -> Result<(), ApplyFault>
+    ensures { Passes result (first_admission_fault provider.now claims.now at) }
+{
+    if claims.iss.as_str() != provider.issuer.as_str() {
+        return Err(unlicensed(RuleCode::E18(MapFault::Issuer)));
+    }
+    let name = name_of(alloc, provider)?;
+    if !accepts_any(alloc, &name, claims.aud.as_slice())? {
+        return Err(unlicensed(RuleCode::E18(MapFault::Audience)));
+    }
+    match timing(claims, at) {
+        When::Live => Ok(()),
+        When::Expired => Err(unlicensed(RuleCode::E18(MapFault::Expired))),
+        When::NotYet => Err(unlicensed(RuleCode::E18(MapFault::NotYet))),
+    }
+}
+
+// The provider's full name.
+pub(crate) fn name_of(alloc: Global, provider: &StartProvider) -> Result<Text, AllocError>
+    ensures { IfOk result (λ name. name ≡ audience_text (provider_name provider.now)) }
+{
+    let name = Audience {
+        pool: provider.pool.copy(alloc)?,
+        provider: provider.id.copy(alloc)?,
+    };
+    name.print(alloc)
+}
+
+fn accepts_any(alloc: Global, name: &Text, audiences: &[Text]) -> Result<bool, AllocError>
+    ensures { IfOk result (λ accepted. accepted ≡ list_any (is_acceptable name.now) audiences.now) }
+{
+    let secure = secure_name(alloc, name.as_str())?;
+    for audience in audiences {
+        if is_one_of(audience.as_str(), name.as_str(), secure.as_str()) {
+            return Ok(true);
+        }
+    }
+    Ok(false)
+}
+
+fn secure_name(alloc: Global, name: &str) -> Result<Text, AllocError>
+    ensures { IfOk result (λ secure. secure ≡ codes "https:" ++ name.now) }
+{
+    Ok(Text::new(format!(in alloc; "https:{name}")?))
+}
+
+fn is_one_of(text: &str, one: &str, other: &str) -> bool
+    ensures { result ≡ (bytes_eq text.now one.now || bytes_eq text.now other.now) }
+{
+    text == one || text == other
+}
+
+// A copy of the claim `sub`.
+fn subject_of(alloc: Global, claims: &Claims) -> Result<Text, ApplyFault>
+    ensures { Gives (λ subject. subject) result (subject_by (subject_claim claims.now)) }
+{
+    match value_at(&claims.tree, "sub").and_then(text_in) {
+        None => Err(unlicensed(RuleCode::E19(MapFault::Subject))),
+        Some(subject) => sized_subject(alloc, subject),
+    }
+}
+
+fn sized_subject(alloc: Global, subject: &str) -> Result<Text, ApplyFault>
+    ensures { Gives (λ subject. subject) result (subject_by (Some subject.now)) }
+{
+    if subject.is_empty() {
+        return Err(unlicensed(RuleCode::E19(MapFault::Subject)));
+    }
+    if subject.len() > 127 {
+        let key = Text::copy_of(alloc, "google.subject")?;
+        return Err(unlicensed(RuleCode::E19(MapFault::TooLong { key })));
+    }
+    Ok(Text::copy_of(alloc, subject)?)
+}
+
+fn text_in(value: &Value) -> Option<&str>
+    ensures { option_map (λ text. text.now) result ≡ text_of_value value.now }
+{
+    match value {
+        Value::Text(text) => Some(text.as_str()),
+        _ => None,
+    }
+}
+
+fn value_at<'a>(value: &'a Value, key: &str) -> Option<&'a Value>
+    ensures { option_map (λ found. found.now) result ≡ value_under value.now key.now }
+{
+    match value {
+        Value::Map(entries) => find_value(entries.as_slice(), key),
+        _ => None,
+    }
+}
+
+fn find_value<'a>(entries: &'a [MapEntry], key: &str) -> Option<&'a Value>
+    ensures { option_map (λ found. found.now) result ≡ value_in entries.now key.now }
+{
+    for entry in entries {
+        if entry.key.as_str() == key {
+            return Some(&entry.value);
+        }
+    }
+    None
+}
