@@ -2,9 +2,11 @@ pub mod Chain
 pub mod Exact
 pub mod Configuration
 pub mod Facts
+pub mod Forms
 pub mod Licence
 pub mod Made
 pub mod Payload
+pub mod Reading
 pub mod Reads
 pub mod Sources
 pub mod State
