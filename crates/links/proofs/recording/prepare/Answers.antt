@@ -1,4 +1,5 @@
-use Rattle.std.proofs.Common.{◌∙◌}
+use Rattle.std.proofs.Common.{◌≡◌, ◌∙◌}
+use Rattle.std.specs.Prelude.{Err}
 use Rattle.links.proofs.Preparing.{prepares, refused_at}
 use Rattle.links.proofs.recording.prepare.Goals as goal
 
