@@ -1,7 +1,9 @@
+pub mod Back
 pub mod Clean
 pub mod ExactTexts
 pub mod Floats
 pub mod GoodLinks
+pub mod Says
 pub mod Utf8
 pub mod Writing
 pub mod Chains

@@ -1,13 +1,15 @@
 pub mod Active
 pub mod Chain
-pub mod Entries
-pub mod Issued
 pub mod Configuration
+pub mod Entries
 pub mod Exact
 pub mod Facts
+pub mod Forms
+pub mod Issued
 pub mod Licence
 pub mod Made
 pub mod Payload
+pub mod Reading
 pub mod Reads
 pub mod Sources
 pub mod State

@@ -1,11 +1,13 @@
-ghost use Rattle.std.specs.Prelude.{◌≡◌, ◌<◌, ◌^◌, ℕ, List, Some, IsUtf8, option_and_then, codes};
+ghost use Rattle.std.specs.Prelude.{◌≡◌, ◌<◌, ◌^◌, true, ℕ, List, Some, IsUtf8, option_and_then, codes};
 ghost use Rattle.std.specs.Fmt.{decimal};
 ghost use Rattle.base64.specs.GeneralPurpose.{IsBytes};
 ghost use Rattle.json_text.specs.Document.{document, text_at};
 ghost use Rattle.links.specs.declared.link.Link.{Link};
 ghost use Rattle.links.specs.Exact.{IsExact, IsGoodLink};
 ghost use Rattle.links.specs.Facts.{Facts, facts_of};
+ghost use Rattle.links.specs.Forms.{is_facts, IsFormedLink};
 ghost use Rattle.links.specs.Payload.{payload_data, payload_text, link_chain};
+ghost use Rattle.links.specs.Reading.{payload_facts};
 
 /// A law: the payload of exact facts is UTF-8, reads back as its tree, and has the link's number as its
 /// `jti`.
@@ -22,4 +24,16 @@ pub fn payload_tells_its_number()
 pub fn good_link_has_exact_facts()
     ensures { (issuer : List ℕ) (number : ℕ) (link : Link) → number < 2 ^ 32 → IsUtf8 issuer → IsGoodLink link
         → IsExact issuer (facts_of (link_chain number link)) }
+{}
+
+/// A law: the payload of exact facts of their forms says them, and a text that says facts is their
+/// payload and no other.
+pub fn payload_says_its_facts()
+    ensures says { (issuer : List ℕ) (facts : Facts) → IsExact issuer facts → is_facts facts ≡ true
+        → payload_facts issuer (payload_text issuer facts) ≡ Some facts }
+    ensures no_other { (issuer text : List ℕ) (facts : Facts) → payload_facts issuer text ≡ Some facts
+        → (text ≡ payload_text issuer facts) × (is_facts facts ≡ true) }
+    ensures link { (issuer : List ℕ) (number : ℕ) (link : Link) → number < 2 ^ 32 → IsUtf8 issuer
+        → IsGoodLink link → IsFormedLink link
+        → payload_facts issuer (payload_text issuer (facts_of (link_chain number link))) ≡ Some (facts_of (link_chain number link)) }
 {}

@@ -26,7 +26,9 @@ pub use config::{Config, ConfigError, StartProvider};
 pub use entry::Entry;
 pub use fault::{ApplyFault, MapFault, RuleCode};
 pub use key::Key;
-pub use laws::{good_link_has_exact_facts, payload_tells_its_number};
+pub use laws::{
+    good_link_has_exact_facts, payload_says_its_facts, payload_tells_its_number,
+};
 pub use link::{Link, LinkKind, Source};
 pub use recording::{CLOUD_PLATFORM, commit, prepare};
 pub use prepared::Prepared;
