@@ -10,3 +10,4 @@ pub mod Chains
 mod Preparing
 mod Places
 pub mod Issuing
+pub mod Replays

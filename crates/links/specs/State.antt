@@ -66,6 +66,14 @@ abbrev pub state_after : Content → List Entry → Content
 state_after c [] = c
 state_after c (e ∷ es) = state_after (after c e) es
 
+-- the state before the first entry, with the same issuer, key and provider
+abbrev pub origin : Content → Content
+origin c = record { issuer = c.issuer; key = c.key; start = c.start; entries = []; links = [] }
+
+-- the state is the one that its entries leave
+abbrev pub IsReplayed : Content → Type 0
+IsReplayed c = c ≡ state_after (origin c) c.entries
+
 -- the chain of link n, where there is one
 abbrev pub chain : Content → ℕ → Option Chain
 chain c n = chain_at (chains_of c.links) n

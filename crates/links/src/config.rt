@@ -1,6 +1,6 @@
 use crate::Key;
 use base_types::Text;
-use iam_names::{PoolName, ProviderId};
+use iam_names::{Audience, PoolName, ProviderId};
 use std::alloc::{AllocError, Global};
 
 /// The service's configuration.
@@ -49,6 +49,17 @@ impl From<AllocError> for ConfigError {
 
 impl StartProvider {
     ghost use Rattle.std.specs.Prelude.{◌≡◌, IfOk};
+    ghost use Rattle.links.specs.Sources.{provider_name};
+
+    /// The provider's full name.
+    pub fn name(&self, alloc: Global) -> Result<Audience, AllocError>
+        ensures { IfOk result (λ name. name ≡ provider_name self.now) }
+    {
+        Ok(Audience {
+            pool: self.pool.copy(alloc)?,
+            provider: self.id.copy(alloc)?,
+        })
+    }
 
     pub fn copy(&self, alloc: Global) -> Result<Self, AllocError>
         ensures { IfOk result (λ provider. provider ≡ self.now) }

@@ -30,8 +30,8 @@ pub use laws::{
     good_link_has_exact_facts, payload_says_its_facts, payload_tells_its_number,
 };
 pub use link::{Link, LinkKind, Source};
-pub use recording::{CLOUD_PLATFORM, commit, prepare};
+pub use recording::{CLOUD_PLATFORM, all_permissions, commit, prepare};
 pub use prepared::Prepared;
 pub use read_config::read_service_config;
 pub use state::State;
-pub use payload::write_payload;
+pub use payload::{words_text, write_payload};

@@ -17,7 +17,7 @@ use std::alloc::{AllocError, Global};
 const MAX_LIFETIME: u64 = 3600;
 
 /// Words with one space between.
-pub(crate) fn words_text(alloc: Global, words: &[ScopeWord]) -> Result<Text, AllocError>
+pub fn words_text(alloc: Global, words: &[ScopeWord]) -> Result<Text, AllocError>
     ensures { IfOk result (λ text. text ≡ joined words.now) }
 {
     let mut text = String::new(alloc);

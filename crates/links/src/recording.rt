@@ -1,4 +1,4 @@
-ghost use Rattle.std.specs.Prelude.{◌≡◌, ◌≤◌, ◌<◌, ◌-◌, ◌^◌, ℕ, IfOk, OnOk, IfSome, true, length, not, nat_lt};
+ghost use Rattle.std.specs.Prelude.{◌≡◌, ◌≤◌, ◌<◌, ◌-◌, ◌^◌, ◌∷◌, [], ℕ, IfOk, OnOk, IfSome, true, length, not, nat_lt};
 ghost use Rattle.std.specs.List.{list_all, AllByRecursion};
 ghost use Rattle.iam_names.specs.Forms.{is_scope_word};
 ghost use Rattle.links.specs.Exact.{IsGoodLink, IsGoodSource};
@@ -10,7 +10,7 @@ ghost use Rattle.iam_names.specs.Audience.{audience_text};
 ghost use Rattle.links.specs.declared.fault.RuleCode.TheVariants.{E11};
 ghost use Rattle.links.specs.Made.{made_of, next_payload, sized as sized_token};
 ghost use Rattle.links.specs.Facts.{facts_of, exp_of};
-ghost use Rattle.links.specs.Licence.{Prepares, prepared_of, licensed_link, knows_word};
+ghost use Rattle.links.specs.Licence.{Prepares, prepared_of, licensed_link, knows_word, cloud_platform};
 ghost use Rattle.links.specs.Payload.{link_chain, payload_text};
 ghost use Rattle.links.specs.Reads.{Gives, Passes};
 ghost use Rattle.links.specs.Sources.{provider_name};
@@ -21,13 +21,26 @@ use crate::source::{name_of, read_source};
 use crate::{ApplyFault, Entry, Link, LinkKind, Prepared, RuleCode, Source, StartProvider, State};
 use base_types::{Items, Text};
 use hmac_jws::sign;
-use iam_names::{Audience, ScopeWord};
+use iam_names::{Audience, NameError, ScopeWord};
 use std::alloc::{AllocError, Global};
 
 /// The scope word that is there from the start, for all permissions.
 pub const CLOUD_PLATFORM: &str = "https://www.googleapis.com/auth/cloud-platform";
 
 const TOKEN_LIMIT: usize = 8192;
+
+/// The scope of an exchange that names none.
+pub fn all_permissions(alloc: Global) -> Result<Items<ScopeWord>, AllocError>
+    ensures { IfOk result (λ words. words ≡ cloud_platform ∷ []) }
+{
+    let mut words = Items::new(alloc);
+    match ScopeWord::read(alloc, CLOUD_PLATFORM) {
+        Ok(word) => words.push(word)?,
+        // The word has its form.
+        Err(NameError::Form | NameError::Memory) => return Err(AllocError),
+    }
+    Ok(words)
+}
 
 /// Looks whether the state licenses an entry, and makes all that its recording needs. It changes no content.
 pub fn prepare(alloc: Global, state: &mut State, entry: Entry) -> Result<Prepared, ApplyFault>

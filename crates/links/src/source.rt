@@ -14,7 +14,7 @@ use crate::{ApplyFault, MapFault, RuleCode, Source, StartProvider};
 use base_types::{Items, Text, TextMap};
 use cel_values::{MapEntry, Value};
 use hmac_jws::{JwsFault, Verified, verify};
-use iam_names::{Audience, Identity};
+use iam_names::Identity;
 use std::alloc::{AllocError, Global};
 use wif_claims::{ClaimFault, Claims, When, read_claims, timing};
 
@@ -115,10 +115,7 @@ fn admit(
 pub(crate) fn name_of(alloc: Global, provider: &StartProvider) -> Result<Text, AllocError>
     ensures { IfOk result (λ name. name ≡ audience_text (provider_name provider.now)) }
 {
-    let name = Audience {
-        pool: provider.pool.copy(alloc)?,
-        provider: provider.id.copy(alloc)?,
-    };
+    let name = provider.name(alloc)?;
     name.print(alloc)
 }
 

@@ -1,4 +1,4 @@
-use crate::{Config, Entry, Key, Link, StartProvider};
+use crate::{Entry, Key, Link, StartProvider};
 use base_types::Text;
 use std::alloc::{AllocError, Global};
 use std::marker::Model;
@@ -17,7 +17,7 @@ impl Model for State {
     ghost use Rattle.std.specs.Prelude.{◌≤◌, ◌-◌, min, length, vec_len, vec_capacity};
     ghost use Rattle.std.specs.List.{AllByRecursion};
     ghost use Rattle.links.specs.Exact.{IsGoodLink};
-    ghost use Rattle.links.specs.State.{Content, Kept};
+    ghost use Rattle.links.specs.State.{Content, Kept, IsReplayed};
 
     ghost Value = { Kept };
 
@@ -26,31 +26,28 @@ impl Model for State {
       spare = min (vec_capacity s.entries - vec_len s.entries) (vec_capacity s.links - vec_len s.links);
     } };
 
-    ghost invariant = { λ s. (vec_len s.links ≤ vec_len s.entries) × AllByRecursion IsGoodLink s.links.items };
+    ghost invariant = { λ s. (vec_len s.links ≤ vec_len s.entries) × AllByRecursion IsGoodLink s.links.items
+        × IsReplayed (record { issuer = s.issuer; key = s.key; start = s.start; entries = s.entries.items; links = s.links.items }) };
 }
 
 impl State {
-    ghost use Rattle.std.specs.Prelude.{◌≡◌, ◌≤◌, ◌<◌, ◌++◌, ◌∷◌, [], length, IfOk, OnOk, IfSome};
+    ghost use Rattle.std.specs.Prelude.{◌≡◌, ◌≤◌, ◌-◌, ◌^◌, [], length, not, nat_lt, OnOk, IfSome};
     ghost use Rattle.std.specs.Option.{option_copied};
     ghost use Rattle.std.specs.List.{AllByRecursion};
     ghost use Rattle.links.specs.Exact.{IsGoodLink};
-    ghost use Rattle.links.specs.State.{start_of, with_link};
+    ghost use Rattle.links.specs.State.{IsReplayed, after, link_of};
 
     /// The state of a configuration before the first entry.
-    pub fn start(alloc: Global, config: &Config) -> Result<Self, AllocError>
-        ensures { IfOk result (λ state. state.content ≡ start_of config.now) }
+    pub fn new(alloc: Global, issuer: Text, key: Key, start: Option<StartProvider>) -> Self
+        ensures { result.content ≡ record { issuer = issuer; key = key; start = start; entries = []; links = [] } }
     {
-        let start = match &config.start {
-            Some(provider) => Some(provider.copy(alloc)?),
-            None => None,
-        };
-        Ok(State {
-            issuer: config.issuer.copy(alloc)?,
-            key: config.key.copy(alloc)?,
+        State {
+            issuer,
+            key,
             start,
             entries: Vec::new(alloc),
             links: Vec::new(alloc),
-        })
+        }
     }
 
     pub fn issuer(&self) -> &str
@@ -83,8 +80,16 @@ impl State {
     pub fn entry_count(&self) -> usize
         ensures count { result ≡ length self.now.content.entries }
         ensures links { length self.now.content.links ≤ result }
+        ensures replayed { IsReplayed self.now.content }
     {
         self.entries.len()
+    }
+
+    /// Whether no entry more can be recorded: links are numbered below 2^32.
+    pub fn is_full(&self) -> bool
+        ensures { result ≡ not (nat_lt (length self.now.content.entries) (2 ^ 32 - 1)) }
+    {
+        self.entries.len() >= 4_294_967_295
     }
 
     /// Takes room for an entry more.
@@ -101,11 +106,8 @@ impl State {
     pub(crate) fn push(&mut self, entry: Entry, link: Option<Link>)
         requires room { 1 ≤ self.old.spare }
         requires good { IfSome link IsGoodLink }
-        ensures entries { self.new.content.entries ≡ self.old.content.entries ++ entry ∷ [] }
-        ensures links { self.new.content.links ≡ with_link self.old.content.links link }
-        ensures issuer { self.new.content.issuer ≡ self.old.content.issuer }
-        ensures key { self.new.content.key ≡ self.old.content.key }
-        ensures start { self.new.content.start ≡ self.old.content.start }
+        requires recorded { link ≡ link_of self.old.content entry }
+        ensures { self.new.content ≡ after self.old.content entry }
     {
         self.entries.push(entry).unwrap();
         if let Some(link) = link {
