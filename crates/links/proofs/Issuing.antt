@@ -36,13 +36,13 @@ pub record IsKept (c : Content) : Type 0 where
 pub chain-there : (c : Content) (n : ℕ) (link : Link) → slice_get c.links n ≡ Some link → chain c n ≡ Some (link_chain n link)
 chain-there c n link there =
     let found : slice_get (chains_of c.links) n ≡ Some (Some (link_chain n link)) =
-      ap (λ (l : List (Option Chain)). slice_get l n) (chains_of-from c.links) ∙ link_found-all c.links n link there in
+    ap (λ (l : List (Option Chain)). slice_get l n) (chains_of-from c.links) ∙ link_found-all c.links n link there in
     ap joined found
 
 pub chain-missing : (c : Content) (n : ℕ) → slice_get c.links n ≡ None → chain c n ≡ None
 chain-missing c n missing =
     let none : slice_get (chains_of c.links) n ≡ None =
-      ap (λ (l : List (Option Chain)). slice_get l n) (chains_of-from c.links) ∙ link_missing 0 c.links n missing in
+    ap (λ (l : List (Option Chain)). slice_get l n) (chains_of-from c.links) ∙ link_missing 0 c.links n missing in
     ap joined none
 
 good_at : (links : List Link) (n : ℕ) (link : Link) → AllByRecursion IsGoodLink links → slice_get links n ≡ Some link → IsGoodLink link
@@ -69,7 +69,7 @@ told_of_link c text told n link kept tells there same =
     let equal : token_text c (link_chain n link) ≡ text = (bytes_eq-Decides (token_text c (link_chain n link)) text).0 same in
     let number : facts.number ≡ n = number_is n link in
     tells (payload_text c.issuer facts) n (IsBytes-payload_text c.issuer facts exact) low (sym equal)
-      (jti-payload_text c.issuer facts exact ∙ ap (λ (k : ℕ). Some (decimal k)) number)
+    (jti-payload_text c.issuer facts exact ∙ ap (λ (k : ℕ). Some (decimal k)) number)
 
 told_found : (c : Content) (text : List ℕ) (told : Option ℕ) → IsKept c → Tells c.key text told
     → (found : FoundAt (is_text_of c text) (chains_of c.links) (place_of (is_text_of c text) (chains_of c.links))) → told ≡ Some found.number

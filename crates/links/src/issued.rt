@@ -76,12 +76,7 @@ fn number_of(text: &str) -> Option<u32>
 }
 
 // Whether the text is the token of the link of that number.
-fn is_token_of(
-    alloc: Global,
-    state: &State,
-    number: u32,
-    text: &str,
-) -> Result<bool, AllocError>
+fn is_token_of(alloc: Global, state: &State, number: u32, text: &str) -> Result<bool, AllocError>
     ensures { IfOk result (λ same. same ≡ is_text_of state.now.content text.now (chain state.now.content number)) }
 {
     match state.links().get(number as usize) {

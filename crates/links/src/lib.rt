@@ -7,31 +7,29 @@ mod config;
 mod config_tests;
 mod entry;
 mod fault;
-mod key;
 mod issued;
+mod key;
 mod laws;
 mod link;
-mod recording;
+mod payload;
 mod prepared;
 mod read_config;
+mod recording;
 mod source;
 mod state;
-mod payload;
 #[cfg(test)]
 mod tests;
 
 pub use active::write_active;
-pub use issued::find_issued;
 pub use config::{Config, ConfigError, StartProvider};
 pub use entry::Entry;
 pub use fault::{ApplyFault, MapFault, RuleCode};
+pub use issued::find_issued;
 pub use key::Key;
-pub use laws::{
-    good_link_has_exact_facts, payload_says_its_facts, payload_tells_its_number,
-};
+pub use laws::{good_link_has_exact_facts, payload_says_its_facts, payload_tells_its_number};
 pub use link::{Link, LinkKind, Source};
-pub use recording::{CLOUD_PLATFORM, all_permissions, commit, prepare};
+pub use payload::{put_text, words_text, write_payload};
 pub use prepared::Prepared;
 pub use read_config::read_service_config;
+pub use recording::{CLOUD_PLATFORM, all_permissions, commit, prepare};
 pub use state::State;
-pub use payload::{words_text, write_payload};

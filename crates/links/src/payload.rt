@@ -32,7 +32,7 @@ pub fn words_text(alloc: Global, words: &[ScopeWord]) -> Result<Text, AllocError
     Ok(Text::new(text))
 }
 
-pub(crate) fn put_text(
+pub fn put_text(
     alloc: Global,
     members: &mut Map<String, Value>,
     name: &str,

@@ -1,13 +1,18 @@
 -- What the form of a request says (application/x-www-form-urlencoded).
-use Rattle.std.specs.Prelude.{ℕ, ◌&&◌, List, length, map, count_by, Bool, not, nat_lt, ◌==◌, ◌||◌, [], ◌∷◌, false}
+use Rattle.std.specs.Prelude.{ℕ, ◌&&◌, ◌==◌, ◌||◌, List, [], ◌∷◌, length, map, Bool, true, false, not, nat_lt, Option, None, Some, if◌then◌else◌}
 use Rattle.std.specs.List.{list_all}
 use Rattle.std.specs.Str.{bytes_eq}
 use Rattle.std.specs.Str.Lossy.{utf8_lossy}
 use Rattle.form_urlencoded.specs.Form.{raw_pairs, decode}
+use Rattle.sts_core.specs.declared.form.Parameter.{Parameter}
 
--- the names and values as they are decoded, with U+FFFD where the bytes are no UTF-8
-abbrev pub pairs_of : List ℕ → List (List ℕ × List ℕ)
-pairs_of body = map (λ (name, value). (utf8_lossy (decode name), utf8_lossy (decode value))) (raw_pairs body)
+-- a name and a value as they are decoded, with U+FFFD where the bytes are no UTF-8
+abbrev pub parameter_of : List ℕ × List ℕ → Parameter
+parameter_of pair = record { name = utf8_lossy (decode pair.0); value = utf8_lossy (decode pair.1) }
+
+-- the parameters of a body, in order
+abbrev pub form_of : List ℕ → List Parameter
+form_of body = map parameter_of (raw_pairs body)
 
 -- U+FFFD is there
 abbrev pub holds_replacement : List ℕ → Bool
@@ -15,16 +20,33 @@ holds_replacement (a ∷ b ∷ c ∷ rest) = (a == 239 && b == 191 && c == 189) 
 holds_replacement short = false
 
 -- a name or value counts as no UTF-8 where U+FFFD is there
-abbrev pub is_text : List ℕ × List ℕ → Bool
-is_text pair = not (holds_replacement pair.0) && not (holds_replacement pair.1)
+abbrev pub is_text : Parameter → Bool
+is_text parameter = not (holds_replacement parameter.name) && not (holds_replacement parameter.value)
 
-abbrev pub is_all_text : List ℕ → Bool
-is_all_text body = list_all is_text (pairs_of body)
+abbrev pub is_all_text : List Parameter → Bool
+is_all_text form = list_all is_text form
 
 -- a parameter without a value counts as absent
-abbrev pub has_value : List ℕ → List ℕ × List ℕ → Bool
-has_value name pair = bytes_eq pair.0 name && nat_lt 0 (length pair.1)
+abbrev pub has_value : List ℕ → Parameter → Bool
+has_value name parameter = bytes_eq parameter.name name && nat_lt 0 (length parameter.value)
 
--- how often a parameter has a value
-abbrev pub values_count : List ℕ → List ℕ → ℕ
-values_count name body = count_by (has_value name) (pairs_of body)
+-- the values of a parameter
+abbrev pub values : List ℕ → List Parameter → List (List ℕ)
+values name [] = []
+values name (parameter ∷ form) = if has_value name parameter then parameter.value ∷ values name form else values name form
+
+abbrev pub only : List (List ℕ) → Option (List ℕ)
+only [] = None
+only (value ∷ []) = Some value
+only (value ∷ other ∷ more) = None
+
+-- the one value of a parameter that has exactly one
+abbrev pub once : List ℕ → List Parameter → Option (List ℕ)
+once name form = only (values name form)
+
+abbrev pub has_none : List (List ℕ) → Bool
+has_none [] = true
+has_none (value ∷ more) = false
+
+abbrev pub is_absent : List Parameter → List ℕ → Bool
+is_absent form name = has_none (values name form)

@@ -1,17 +1,24 @@
 -- The machine: what the service replies to a request, and which entry it adds to its journal.
-use Rattle.std.specs.Prelude.{ℕ, ◌==◌, List, [], ◌∷◌, ◌++◌, codes, Bool, false, not, Option, None, Some}
+use Rattle.std.specs.Prelude.{ℕ, List, [], ◌∷◌, ◌++◌, Bool, false, not, Option, None, Some, option_and_then, codes, if◌then◌else◌}
 use Rattle.std.specs.Str.{bytes_eq}
 use Rattle.json_text.specs.Rules.{fails_if, first_failing}
 use Rattle.wif_base.specs.declared.route.Route.{Route}
 use Rattle.wif_base.specs.declared.route.Route.TheVariants.{Token, Generate, Introspect, Check, Admin}
 use Rattle.wif_base.specs.declared.request.Request.{Request}
 use Rattle.wif_base.specs.declared.request.Reply.{Reply}
-use Rattle.sts_core.specs.declared.config.Config.{Config}
-use Rattle.sts_core.specs.Forms.{is_all_text, values_count}
-use Rattle.sts_core.specs.Replies.{u1, n2, not_built, inactive}
-
--- What the journal records. No request records anything yet.
-pub data Entry : Type 0 where
+use Rattle.links.specs.declared.config.Config.{Config}
+use Rattle.links.specs.declared.entry.Entry.{Entry}
+use Rattle.links.specs.declared.fault.RuleCode.{RuleCode}
+use Rattle.links.specs.Active.{active_text}
+use Rattle.links.specs.Chain.{Chain}
+use Rattle.links.specs.Facts.{facts_of}
+use Rattle.links.specs.Issued.{issued_link}
+use Rattle.links.specs.Licence.{first_unlicensed, prepared_of}
+use Rattle.links.specs.State.{Content, chain, live, start_of, state_after}
+use Rattle.sts_core.specs.Asked.{asked_entry}
+use Rattle.sts_core.specs.Forms.{form_of, is_all_text, once}
+use Rattle.sts_core.specs.Refusals.{refusal_of}
+use Rattle.sts_core.specs.Replies.{u1, n2, not_built, inactive, issued}
 
 pub record Answer : Type 0 where
   pub reply : Reply
@@ -20,29 +27,63 @@ pub record Answer : Type 0 where
 abbrev pub no_entry : Reply → Answer
 no_entry reply = record { reply = reply; entry = None }
 
+-- the state of a configuration behind these entries
+abbrev pub content_of : Config → List Entry → Content
+content_of config journal = state_after (start_of config) journal
+
+-- ---- introspection (RFC 7662)
+
 -- the bearer is the secret
 abbrev pub is_bearer : List ℕ → Option (List ℕ) → Bool
 is_bearer secret None = false
 is_bearer secret (Some bearer) = bytes_eq bearer secret
 
--- introspection of a token (RFC 7662); no token is issued yet, so none is active
-unfoldable pub introspection : Config → List Entry → Request → ℕ → Reply
-introspection config journal request at = first_failing (
-    fails_if (not (is_bearer config.gate request.bearer)) u1 ∷
-    fails_if (not (is_all_text request.body)) not_built ∷
-    fails_if (not (values_count (codes "token") request.body == 1)) n2 ∷ []
-    ) inactive
+-- a link that is live is told, and of any other token no more than that it isn't active
+abbrev pub told : Content → ℕ → Option Chain → Reply
+told c at None = inactive
+told c at (Some chain) = if live c chain at then (record { status = 200; body = active_text c.issuer (facts_of chain) }) else inactive
+
+-- the chain of the link that a token was issued for
+abbrev pub token_chain : Content → List ℕ → Option Chain
+token_chain c token = option_and_then (chain c) (issued_link c token)
+
+abbrev pub told_token : Content → ℕ → Option (List ℕ) → Reply
+told_token c at None = n2
+told_token c at (Some token) = told c at (token_chain c token)
+
+unfoldable pub introspection : List ℕ → Content → Request → ℕ → Reply
+introspection gate c request at = first_failing (
+    fails_if (not (is_bearer gate request.bearer)) u1 ∷
+    fails_if (not (is_all_text (form_of request.body))) not_built ∷ []
+    ) (told_token c at (once (codes "token") (form_of request.body)))
+
+-- ---- the exchange (RFC 8693)
+
+-- a rule forbids the entry, or the token is issued
+abbrev pub ruled : Content → Entry → Option RuleCode → Answer
+ruled c entry (Some rule) = no_entry (refusal_of rule)
+ruled c entry None = record { reply = issued (prepared_of c entry); entry = Some entry }
+
+abbrev pub exchanged : Content → Option Entry → Answer
+exchanged c None = no_entry not_built
+exchanged c (Some entry) = ruled c entry (first_unlicensed c entry)
+
+-- what is asked for is issued, where no rule forbids it
+abbrev pub exchange : Content → Request → ℕ → Answer
+exchange c request at = exchanged c (asked_entry c.start (form_of request.body) at)
+
+-- ---- any request
 
 -- the machine's answer to a request of a route
-abbrev pub step_of : Route → Config → List Entry → Request → ℕ → Answer
-step_of Token config journal request at = no_entry not_built
-step_of (Generate account) config journal request at = no_entry not_built
-step_of Introspect config journal request at = no_entry (introspection config journal request at)
-step_of Check config journal request at = no_entry not_built
-step_of Admin config journal request at = no_entry not_built
+abbrev pub step_of : Route → List ℕ → Content → Request → ℕ → Answer
+step_of Token gate c request at = exchange c request at
+step_of (Generate account) gate c request at = no_entry not_built
+step_of Introspect gate c request at = no_entry (introspection gate c request at)
+step_of Check gate c request at = no_entry not_built
+step_of Admin gate c request at = no_entry not_built
 
 abbrev pub step : Config → List Entry → Request → ℕ → Answer
-step config journal request at = step_of request.route config journal request at
+step config journal request at = step_of request.route config.gate (content_of config journal) request at
 
 -- the journal with the entry, if there is one
 abbrev pub with_entry : List Entry → Option Entry → List Entry

@@ -1,5 +1,11 @@
--- The replies of the service that are fixed texts.
-use Rattle.std.specs.Prelude.{ℕ, List, ◌++◌, codes}
+-- The replies of the service.
+use Rattle.std.specs.Prelude.{ℕ, ◌-◌, List, [], ◌++◌, codes, Option, unwrap_or}
+use Rattle.serde_json.specs.Data.{Data, number, unsigned, string, object, member, no_members}
+use Rattle.serde_json.specs.Written.{compact_text}
+use Rattle.links.specs.declared.entry.Entry.{Entry}
+use Rattle.links.specs.declared.entry.Entry.TheVariants.{Federated}
+use Rattle.links.specs.declared.prepared.Prepared.{Prepared}
+use Rattle.links.specs.Payload.{words_text}
 use Rattle.wif_base.specs.declared.request.Reply.{Reply}
 
 -- `{"error":WORD,"error_description":TEXT}`
@@ -27,3 +33,29 @@ not_found = refusal 404 (codes "not_found") (codes "H4")
 
 abbrev pub inactive : Reply
 inactive = record { status = 200; body = codes "{\"active\":false}" }
+
+-- ---- a token that is issued (RFC 8693, section 2.2.1)
+
+abbrev pub access_token_type : List ℕ
+access_token_type = codes "urn:ietf:params:oauth:token-type:access_token"
+
+unfoldable pub issued_data : List ℕ → ℕ → List ℕ → Data
+issued_data token seconds scope = object (
+    member (codes "access_token") (string token) (
+    member (codes "expires_in") (number (unsigned seconds)) (
+    member (codes "issued_token_type") (string access_token_type) (
+    member (codes "scope") (string scope) (
+    member (codes "token_type") (string (codes "Bearer")) no_members)))))
+
+abbrev pub scope_of : Entry → List (List ℕ)
+scope_of (Federated provider token scope at) = scope
+
+abbrev pub moment_of : Entry → ℕ
+moment_of (Federated provider token scope at) = at
+
+-- An entry that is licensed has a token and an expiry.
+unfoldable pub issued : Prepared → Reply
+issued prepared = record {
+  status = 200;
+  body = compact_text (issued_data (unwrap_or prepared.token []) (unwrap_or prepared.exp 0 - moment_of prepared.entry) (words_text (scope_of prepared.entry)));
+}

@@ -1,7 +1,8 @@
 -- The machine over a list of requests, of any type for which there is an answer.
 use Rattle.std.specs.Prelude.{List, [], ◌∷◌}
 use Rattle.wif_base.specs.declared.request.Reply.{Reply}
-use Rattle.sts_core.specs.Machine.{Entry, Answer, with_entry}
+use Rattle.links.specs.declared.entry.Entry.{Entry}
+use Rattle.sts_core.specs.Machine.{Answer, with_entry}
 
 -- the replies, each given over the journal that the requests before it left
 abbrev pub replies_of : {X : Type 0} → (List Entry → X → Answer) → List Entry → List X → List Reply

@@ -1,56 +1,89 @@
-ghost use Rattle.std.specs.Prelude.{◌≡◌, IfOk, codes};
-ghost use Rattle.sts_core.specs.Forms.{is_all_text, values_count, holds_replacement as holds, is_text, has_value};
+ghost use Rattle.std.specs.Prelude.{◌≡◌, IfOk, option_map};
+ghost use Rattle.sts_core.specs.Forms.{form_of, is_all_text as all_text, holds_replacement as holds, is_text as text_alone, has_value as has_some, once as once_in, is_absent as absent_from};
 
+use base_types::{Items, Text};
 use std::alloc::{AllocError, Global};
 
-/// What the form of an introspection tells.
-#[derive(Clone, Copy)]
-pub(crate) struct Form {
-    pub is_all_text: bool,
-    pub tokens: usize,
+/// A parameter of a form: its name and its value, decoded.
+#[derive(Debug, Drop)]
+pub struct Parameter {
+    pub name: Text,
+    pub value: Text,
 }
 
-pub(crate) fn read_form(alloc: Global, body: &[u8]) -> Result<Form, AllocError>
-    ensures text { IfOk result (λ form. form.is_all_text ≡ is_all_text body.now) }
-    ensures tokens { IfOk result (λ form. form.tokens ≡ values_count (codes "token") body.now) }
+/// The parameters of a form (application/x-www-form-urlencoded), in order.
+pub(crate) fn read_form(alloc: Global, body: &[u8]) -> Result<Items<Parameter>, AllocError>
+    ensures { IfOk result (λ form. form ≡ form_of body.now) }
 {
-    let mut is_all_text = true;
-    let mut tokens = 0;
+    let mut form = Items::new(alloc);
     for pair in form_urlencoded::parse(alloc, body) {
         let (name, value) = pair?;
-        let told = told_by(&name, &value);
-        is_all_text = is_all_text && told.is_text;
-        if told.is_token {
-            tokens += 1;
-        }
+        form.push(decoded(alloc, &name, &value)?)?;
     }
-    Ok(Form {
-        is_all_text,
-        tokens,
+    Ok(form)
+}
+
+fn decoded(alloc: Global, name: &str, value: &str) -> Result<Parameter, AllocError>
+    ensures { IfOk result (λ parameter. parameter ≡ record { name = name.now; value = value.now }) }
+{
+    Ok(Parameter {
+        name: Text::copy_of(alloc, name)?,
+        value: Text::copy_of(alloc, value)?,
     })
 }
 
-// What one pair of a form tells.
-#[derive(Clone, Copy)]
-struct Told {
-    is_text: bool,
-    is_token: bool,
-}
-
-fn told_by(name: &str, value: &str) -> Told
-    ensures text { result.is_text ≡ is_text (name.now, value.now) }
-    ensures token { result.is_token ≡ has_value (codes "token") (name.now, value.now) }
+/// Whether each name and each value was UTF-8.
+pub(crate) fn is_all_text(form: &[Parameter]) -> bool
+    ensures { result ≡ all_text form.now }
 {
-    let name_is_text = !holds_replacement(name.as_bytes());
-    let value_is_text = !holds_replacement(value.as_bytes());
-    let is_token = name == "token";
-    let is_there = value.len() > 0;
-    Told {
-        is_text: name_is_text && value_is_text,
-        is_token: is_token && is_there,
-    }
+    form.iter().all(|parameter| is_text(parameter))
 }
 
+fn is_text(parameter: &Parameter) -> bool
+    ensures { result ≡ text_alone parameter.now }
+{
+    let name = !holds_replacement(parameter.name.as_str().as_bytes());
+    let value = !holds_replacement(parameter.value.as_str().as_bytes());
+    name && value
+}
+
+/// The value of a parameter that has exactly one.
+pub(crate) fn once<'a>(form: &'a [Parameter], name: &str) -> Option<&'a str>
+    ensures { option_map (λ value. value.now) result ≡ once_in name.now form.now }
+{
+    let mut found: Option<&'a str> = None;
+    for parameter in form {
+        if has_value(parameter, name) {
+            if found.is_some() {
+                return None;
+            }
+            found = Some(parameter.value.as_str());
+        }
+    }
+    found
+}
+
+fn has_value(parameter: &Parameter, name: &str) -> bool
+    ensures { result ≡ has_some name.now parameter.now }
+{
+    let named = parameter.name.as_str() == name;
+    let there = parameter.value.as_str().len() > 0;
+    named && there
+}
+
+/// Whether a parameter has no value.
+pub(crate) fn is_absent(form: &[Parameter], name: &str) -> bool
+    ensures { result ≡ absent_from form.now name.now }
+{
+    for parameter in form {
+        if has_value(parameter, name) {
+            return false;
+        }
+    }
+    true
+}
+
+// Whether U+FFFD is there, which stands for bytes that are no UTF-8.
 fn holds_replacement(text: &[u8]) -> bool
     ensures { result ≡ holds text.now }
 {

@@ -1,15 +1,15 @@
-//! The service: its configuration, its state, and its answer to a request.
+//! The service: its state, and its answer to a request.
 #![tactic(auto)]
 
-mod config;
+mod exchange;
 mod form;
-mod read_config;
+mod introspection;
+mod refusal;
 mod reply;
 mod sts;
 #[cfg(test)]
 mod tests;
 
-pub use config::{Config, ConfigError, PoolName, StartProvider};
-pub use read_config::read_service_config;
+pub use form::Parameter;
 pub use reply::not_found;
 pub use sts::{Stop, Sts};

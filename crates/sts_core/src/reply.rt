@@ -1,9 +1,17 @@
-ghost use Rattle.std.specs.Prelude.{◌≡◌, IfOk};
+ghost use Rattle.std.specs.Prelude.{◌≡◌, ◌-◌, IfOk, OnOk, unwrap_or, []};
+ghost use Rattle.serde_json.specs.Data.{object, no_members};
+ghost use Rattle.serde_json.specs.View.{members_view};
+ghost use Rattle.serde_json.specs.Written.{compact_text};
+ghost use Rattle.links.specs.Payload.{words_text as joined};
 ghost use Rattle.sts_core.specs.Replies as replies;
 
-use base_types::Bytes;
+use base_types::{Bytes, Text};
+use links::{Entry, Prepared, put_text, words_text};
+use serde_json::{Map, Value};
 use std::alloc::{AllocError, Global};
 use wif_base::Reply;
+
+const ACCESS_TOKEN_TYPE: &str = "urn:ietf:params:oauth:token-type:access_token";
 
 fn reply_of(alloc: Global, status: u16, body: &[u8]) -> Result<Reply, AllocError>
     ensures { IfOk result (λ reply. reply ≡ record { status = status; body = body.now }) }
@@ -59,4 +67,76 @@ pub(crate) fn inactive(alloc: Global) -> Result<Reply, AllocError>
     ensures { IfOk result (λ reply. reply ≡ replies.inactive) }
 {
     reply_of(alloc, 200, b"{\"active\":false}")
+}
+
+/// A refusal with its word and its text.
+pub(crate) fn refused(
+    alloc: Global,
+    status: u16,
+    word: &str,
+    text: &str,
+) -> Result<Reply, AllocError>
+    ensures { IfOk result (λ reply. reply ≡ replies.refusal status word.now text.now) }
+{
+    let mut body = String::new(alloc);
+    body.push_str("{\"error\":\"")?;
+    body.push_str(word)?;
+    body.push_str("\",\"error_description\":\"")?;
+    body.push_str(text)?;
+    body.push_str("\"}")?;
+    Ok(Reply {
+        status,
+        body: Bytes::new(body.into_bytes()),
+    })
+}
+
+/// A reply that is a JSON text.
+pub(crate) fn json_reply(text: Text) -> Result<Reply, AllocError>
+    ensures { IfOk result (λ reply. reply ≡ record { status = 200; body = text }) }
+{
+    Ok(Reply {
+        status: 200,
+        body: Bytes::new(text.into_string().into_bytes()),
+    })
+}
+
+/// The reply to an exchange whose entry was prepared (RFC 8693, section 2.2.1).
+#[tactic(auto, unfolding(crate::specs::Replies::issued))]
+pub(crate) fn issued(alloc: Global, prepared: &Prepared) -> Result<Reply, AllocError>
+    ensures { IfOk result (λ reply. reply ≡ replies.issued prepared.now) }
+{
+    let Entry::Federated { scope, at, .. } = &prepared.entry;
+    let token = match &prepared.token {
+        Some(token) => token.as_str(),
+        None => "",
+    };
+    let exp = prepared.exp.unwrap_or(0);
+    let scope = words_text(alloc, scope.as_slice())?;
+    json_reply(issued_text(alloc, token, exp.saturating_sub(*at), scope.as_str())?)
+}
+
+fn issued_text(alloc: Global, token: &str, seconds: u64, scope: &str) -> Result<Text, AllocError>
+    ensures { IfOk result (λ text. text ≡ compact_text (replies.issued_data token.now seconds scope.now)) }
+{
+    let mut members = Map::new(alloc);
+    put_issued(alloc, &mut members, token, seconds, scope)?;
+    Ok(Text::new(Value::Object(members).to_string(alloc)?))
+}
+
+#[tactic(auto, unfolding(crate::specs::Replies::issued_data))]
+fn put_issued(
+    alloc: Global,
+    members: &mut Map<String, Value>,
+    token: &str,
+    seconds: u64,
+    scope: &str,
+) -> Result<(), AllocError>
+    requires { members_view members.old.entries ≡ no_members }
+    ensures { OnOk result (object (members_view members.new.entries) ≡ replies.issued_data token.now seconds scope.now) }
+{
+    put_text(alloc, members, "access_token", token)?;
+    serde_json::put(members, alloc, "expires_in", Value::from(seconds))?;
+    put_text(alloc, members, "issued_token_type", ACCESS_TOKEN_TYPE)?;
+    put_text(alloc, members, "scope", scope)?;
+    put_text(alloc, members, "token_type", "Bearer")
 }

@@ -1,10 +1,11 @@
-ghost use Rattle.std.specs.Prelude.{◌≡◌, IfOk, OnOk, OnErr, IfErr, []};
-ghost use Rattle.sts_core.specs.Machine.{step, with_entry, introspection, is_bearer as bearer_is};
+ghost use Rattle.std.specs.Prelude.{◌≡◌, ◌≤◌, IfOk, OnOk, OnErr, []};
+ghost use Rattle.sts_core.specs.Machine.{step, step_of, with_entry};
 
-use crate::Config;
-use crate::form::read_form;
-use crate::reply::{inactive, no_bearer, no_token, not_built};
+use crate::exchange::exchange;
+use crate::introspection::introspect;
+use crate::reply::not_built;
 use base_types::Text;
+use links::{Config, State};
 use std::alloc::{AllocError, Global};
 use wif_base::{Disk, Reply, Request, Route};
 
@@ -18,7 +19,11 @@ pub enum Stop {
 #[derive(Drop)]
 pub struct Sts<D> {
     pub disk: D,
-    pub config: Config,
+    /// The bearer of admin commands.
+    pub admin: Text,
+    /// The bearer of checks and introspections.
+    pub gate: Text,
+    pub state: State,
 }
 
 impl From<AllocError> for Stop {
@@ -33,24 +38,29 @@ impl From<AllocError> for Stop {
 }
 
 impl<D: Disk> Sts<D> {
-    ghost use Rattle.sts_core.specs.State.{journal};
+    ghost use Rattle.sts_core.specs.State.{configuration, journal};
 
     /// The service of a configuration, with an empty journal.
     pub fn open(alloc: Global, disk: D, config: &Config) -> Result<Self, AllocError>
         ensures disk { IfOk result (λ sts. sts.disk ≡ disk) }
-        ensures config { IfOk result (λ sts. sts.config ≡ config.now) }
+        ensures config { IfOk result (λ sts. configuration sts ≡ config.now) }
         ensures journal { IfOk result (λ sts. journal sts ≡ []) }
     {
-        Ok(Sts::start(disk, config.copy(alloc)?))
+        Ok(Sts::start(alloc, disk, config.copy(alloc)?))
     }
 
     /// The same over a configuration that is handed in. It takes no memory.
-    pub fn start(disk: D, config: Config) -> Self
+    pub fn start(alloc: Global, disk: D, config: Config) -> Self
         ensures disk { result.disk ≡ disk }
-        ensures config { result.config ≡ config }
+        ensures config { configuration result ≡ config }
         ensures journal { journal result ≡ [] }
     {
-        Sts { disk, config }
+        Sts {
+            disk,
+            admin: config.admin,
+            gate: config.gate,
+            state: State::new(alloc, config.issuer, config.key, config.start),
+        }
     }
 
     /// Gives the disk back.
@@ -62,44 +72,34 @@ impl<D: Disk> Sts<D> {
 
     /// Answers a request of any route, at a moment in seconds since 1970-01-01T00:00:00Z.
     pub fn answer(&mut self, alloc: Global, request: &Request, at: u64) -> Result<Reply, Stop>
-        ensures reply { IfOk result (λ reply. reply ≡ (step self.old.config (journal self.old) request.now at).reply) }
-        ensures journal { OnOk result (journal self.new ≡ with_entry (journal self.old) (step self.old.config (journal self.old) request.now at).entry) }
-        ensures config { self.new.config ≡ self.old.config }
+        requires moment { at ≤ 200_000_000_000 }
+        ensures reply { IfOk result (λ reply. reply ≡ (step (configuration self.old) (journal self.old) request.now at).reply) }
+        ensures journal { OnOk result (journal self.new ≡ with_entry (journal self.old) (step (configuration self.old) (journal self.old) request.now at).entry) }
+        ensures config { configuration self.new ≡ configuration self.old }
         ensures disk { self.new.disk ≡ self.old.disk }
-        ensures refused { OnErr result (self.new ≡ self.old) }
+        ensures refused { OnErr result (self.new.state.content ≡ self.old.state.content) }
     {
+        // Its contract says that the state is the one that its entries leave.
+        let _count = self.state.entry_count();
+        self.answer_now(alloc, request, at)
+    }
+
+    // The same, told by the state as it is.
+    fn answer_now(&mut self, alloc: Global, request: &Request, at: u64) -> Result<Reply, Stop>
+        requires moment { at ≤ 200_000_000_000 }
+        ensures reply { IfOk result (λ reply. reply ≡ (step_of request.now.route self.old.gate self.old.state.content request.now at).reply) }
+        ensures journal { OnOk result (journal self.new ≡ with_entry (journal self.old) (step_of request.now.route self.old.gate self.old.state.content request.now at).entry) }
+        ensures config { configuration self.new ≡ configuration self.old }
+        ensures disk { self.new.disk ≡ self.old.disk }
+        ensures refused { OnErr result (self.new.state.content ≡ self.old.state.content) }
+    {
+        if self.state.is_full() {
+            return Err(Stop::Memory);
+        }
         match &request.route {
-            Route::Introspect => self.introspect(alloc, request, at),
+            Route::Token => exchange(alloc, &mut self.state, request, at),
+            Route::Introspect => Ok(introspect(alloc, &self.gate, &self.state, request, at)?),
             _ => Ok(not_built(alloc)?),
         }
-    }
-
-    /// Answers an introspection (RFC 7662).
-    #[tactic(auto, unfolding(crate::specs::Machine::introspection))]
-    pub fn introspect(&mut self, alloc: Global, request: &Request, at: u64) -> Result<Reply, Stop>
-        requires { request.now.route ≡ Route.Introspect }
-        ensures reply { IfOk result (λ reply. reply ≡ introspection self.old.config (journal self.old) request.now at) }
-        ensures same { self.new ≡ self.old }
-    {
-        if !is_bearer(&self.config.gate, &request.bearer) {
-            return Ok(no_bearer(alloc)?);
-        }
-        let form = read_form(alloc, request.body.as_slice())?;
-        if !form.is_all_text {
-            return Ok(not_built(alloc)?);
-        }
-        if form.tokens != 1 {
-            return Ok(no_token(alloc)?);
-        }
-        Ok(inactive(alloc)?)
-    }
-}
-
-fn is_bearer(secret: &Text, bearer: &Option<Text>) -> bool
-    ensures { result ≡ bearer_is secret.now bearer.now }
-{
-    match bearer {
-        Some(text) => text.as_str() == secret.as_str(),
-        None => false,
     }
 }

@@ -6,7 +6,7 @@ use Rattle.std.specs.Io.KnownBytes.{Appends}
 use Rattle.wif_base.specs.declared.request.Reply.{Reply}
 use Rattle.wif_base.specs.Output.{IsProperPart}
 use Rattle.wif_base.proofs.Known.{appends-nothing}
-use Rattle.sts_core.specs.Machine.{Entry}
+use Rattle.links.specs.declared.entry.Entry.{Entry}
 use Rattle.sts_serve.specs.Frames.{reply_text}
 
 pub some_text : (reply : Reply) → 0 < length (reply_text reply)

@@ -10,9 +10,10 @@ use Rattle.wif_base.proofs.Outputs as outputs
 use Rattle.wif_base.specs.Carried.{Carried, input_limit}
 use Rattle.wif_base.specs.Output.{IsProperPart}
 use Rattle.wif_base.specs.declared.request.Reply.{Reply}
-use Rattle.sts_core.specs.declared.config.Config.{Config}
+use Rattle.links.specs.declared.config.Config.{Config}
 use Rattle.sts_core.specs.declared.sts.Stop.TheVariants.{Memory}
-use Rattle.sts_core.specs.Machine.{Entry, with_entry}
+use Rattle.links.specs.declared.entry.Entry.{Entry}
+use Rattle.sts_core.specs.Machine.{with_entry}
 use Rattle.sts_core.specs.Runs.{replies_of, entries_after}
 use Rattle.sts_serve.specs.Frames.{bearer_text, IsFrame, frame_text, script_text, ScriptBegins, NoFrame, reply_text, reply_frames, answer}
 use Rattle.sts_serve.specs.Served.{EndsAs, ScriptRun}

@@ -2,7 +2,7 @@
 use Rattle.std.specs.Prelude.{◌≡◌, ◌⊎◌, List, [], ℕ, Option, Result, Ok, Err, ⊤}
 use Rattle.std.specs.Io.KnownBytes.{Appends}
 use Rattle.wif_base.specs.Output.{IsProperPart}
-use Rattle.sts_core.specs.Machine.{Entry}
+use Rattle.links.specs.declared.entry.Entry.{Entry}
 use Rattle.sts_serve.specs.declared.served.Served.{Served}
 
 -- At `Ok` the reply is written and the journal is the one after it. Else a proper part is written, and of a journal that

@@ -3,8 +3,8 @@ use Rattle.std.specs.Prelude.{◌≡◌, ◌≢◌, ◌≤◌, ◌⊎◌, ℕ, �
 use Rattle.std.specs.Io.KnownBytes.{Consumes, Appends, IsAtEnd}
 use Rattle.wif_base.specs.Carried.{input_limit}
 use Rattle.wif_base.specs.Output.{OutputIs}
-use Rattle.sts_core.specs.declared.config.Config.{Config}
-use Rattle.sts_core.specs.Machine.{Entry}
+use Rattle.links.specs.declared.config.Config.{Config}
+use Rattle.links.specs.declared.entry.Entry.{Entry}
 use Rattle.sts_core.specs.Runs.{replies_of, entries_after}
 use Rattle.sts_serve.specs.Frames.{ScriptBegins, NoFrame, NeverFrame, reply_frames, answer, script_text}
 use Rattle.sts_serve.specs.declared.frame.Frame.{Frame}

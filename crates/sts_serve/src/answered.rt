@@ -1,7 +1,7 @@
 ghost use Rattle.std.specs.Prelude.{◌≡◌, ◌≤◌, ◌⊎◌, IfOk, IfErr, OnOk, OnErr};
 ghost use Rattle.wif_base.specs.Causes.{Rose};
 ghost use Rattle.sts_core.specs.Machine.{with_entry};
-ghost use Rattle.sts_core.specs.State.{journal};
+ghost use Rattle.sts_core.specs.State.{configuration, journal};
 ghost use Rattle.sts_serve.specs.Frames.{answer, reply_text};
 ghost use Rattle.sts_serve.specs.Answered.{Answers};
 
@@ -17,10 +17,11 @@ pub(crate) fn answer_frame<O: Sink, D: Disk>(
     output: &mut O,
     frame: Frame,
 ) -> Result<(), Served>
+    requires { frame.moment ≤ 200_000_000_000 }
     ensures answers { Answers (O.taken output.old) (O.taken output.new)
-        (reply_text (answer sts.old.config (journal sts.old) frame).reply) (journal sts.old)
-        (with_entry (journal sts.old) (answer sts.old.config (journal sts.old) frame).entry) (journal sts.new) result }
-    ensures config { sts.new.config ≡ sts.old.config }
+        (reply_text (answer (configuration sts.old) (journal sts.old) frame).reply) (journal sts.old)
+        (with_entry (journal sts.old) (answer (configuration sts.old) (journal sts.old) frame).entry) (journal sts.new) result }
+    ensures config { configuration sts.new ≡ configuration sts.old }
     ensures disk { sts.new.disk ≡ sts.old.disk }
     ensures cause { result ≡ Err Served.WriteFault → Rose (O.faults output.old) (O.faults output.new) }
     ensures ends { IfErr result (λ end. (end ≡ Served.WriteFault) ⊎ (end ≡ Served.Stopped Stop.Memory)) }
@@ -42,11 +43,12 @@ pub(crate) fn answer_frame<O: Sink, D: Disk>(
 
 // The machine's reply to a frame.
 fn reply_to<D: Disk>(alloc: Global, sts: &mut Sts<D>, frame: Frame) -> Result<Reply, Stop>
-    ensures reply { IfOk result (λ reply. reply ≡ (answer sts.old.config (journal sts.old) frame).reply) }
-    ensures journal { OnOk result (journal sts.new ≡ with_entry (journal sts.old) (answer sts.old.config (journal sts.old) frame).entry) }
-    ensures config { sts.new.config ≡ sts.old.config }
+    requires { frame.moment ≤ 200_000_000_000 }
+    ensures reply { IfOk result (λ reply. reply ≡ (answer (configuration sts.old) (journal sts.old) frame).reply) }
+    ensures journal { OnOk result (journal sts.new ≡ with_entry (journal sts.old) (answer (configuration sts.old) (journal sts.old) frame).entry) }
+    ensures config { configuration sts.new ≡ configuration sts.old }
     ensures disk { sts.new.disk ≡ sts.old.disk }
-    ensures refused { OnErr result (sts.new ≡ sts.old) }
+    ensures refused { OnErr result (journal sts.new ≡ journal sts.old) }
     ensures memory { IfErr result (λ stop. stop ≡ Stop.Memory) }
 {
     match route_of(alloc, frame.path.as_str())? {

@@ -1,6 +1,6 @@
 ghost use Rattle.std.specs.Prelude.{◌≡◌, ◌≢◌, ◌≤◌, ◌+◌, ◌-◌, ◌*◌, length, []};
 ghost use Rattle.wif_base.specs.Causes.{Rose};
-ghost use Rattle.sts_core.specs.State.{journal};
+ghost use Rattle.sts_core.specs.State.{configuration, journal};
 ghost use Rattle.sts_serve.specs.Served.{ScriptRun};
 
 use crate::answered::answer_frame;
@@ -16,9 +16,9 @@ pub fn run_script<I: Source, O: Sink, D: Disk>(
     input: &mut I,
     output: &mut O,
 ) -> Served
-    ensures run { ScriptRun sts.old.config (journal sts.old) (journal sts.new)
+    ensures run { ScriptRun (configuration sts.old) (journal sts.old) (journal sts.new)
         (I.left input.old) (I.left input.new) (O.taken output.old) (O.taken output.new) result }
-    ensures config { sts.new.config ≡ sts.old.config }
+    ensures config { configuration sts.new ≡ configuration sts.old }
     ensures disk { sts.new.disk ≡ sts.old.disk }
 
     // The causes of the faults.

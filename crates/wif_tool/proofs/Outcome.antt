@@ -9,9 +9,9 @@ use Rattle.wif_base.specs.Carried.{input_limit}
 use Rattle.wif_base.specs.Output.{IsProperPart}
 use Rattle.wif_base.proofs.Known.{appends-then}
 use Rattle.wif_base.proofs.Outputs.{all_written}
-use Rattle.sts_core.specs.declared.config.Config.{Config}
-use Rattle.sts_core.specs.Machine.{Entry}
-use Rattle.sts_core.specs.Configuration.{IsConfiguration, config_limit}
+use Rattle.links.specs.declared.config.Config.{Config}
+use Rattle.links.specs.declared.entry.Entry.{Entry}
+use Rattle.links.specs.Configuration.{IsConfiguration, config_limit}
 use Rattle.sts_serve.specs.Frames.{IsFrame, script_text, frame_text, NoFrame, NeverFrame, ScriptSpells, reply_frames, answer}
 use Rattle.sts_serve.specs.Served.{EndsAs, ScriptRun}
 use Rattle.sts_serve.specs.declared.frame.Frame.{Frame}

@@ -5,9 +5,9 @@ use Rattle.std.specs.Fmt.{decimal}
 use Rattle.std.specs.Io.KnownBytes.{Consumes, Appends, IsAtEnd}
 use Rattle.wif_base.specs.Carried.{input_limit}
 use Rattle.wif_base.specs.Output.{IsProperPart}
-use Rattle.sts_core.specs.declared.config.Config.{Config}
-use Rattle.sts_core.specs.Configuration.{IsConfiguration, config_limit}
-use Rattle.sts_core.specs.Machine.{Entry}
+use Rattle.links.specs.declared.config.Config.{Config}
+use Rattle.links.specs.Configuration.{IsConfiguration, config_limit}
+use Rattle.links.specs.declared.entry.Entry.{Entry}
 use Rattle.sts_core.specs.Runs.{replies_of}
 use Rattle.sts_serve.specs.Frames.{IsFrame, script_text, NoFrame, NeverFrame, reply_frames, answer}
 use Rattle.sts_serve.specs.Served.{ScriptRun}

@@ -2,6 +2,7 @@ ghost use Rattle.std.specs.Prelude.{◌≡◌, ◌≢◌, ◌≤◌, ◌⊎◌, 
 ghost use Rattle.std.specs.Io.KnownBytes.{Consumes};
 ghost use Rattle.wif_base.specs.Causes.{Rose};
 ghost use Rattle.wif_base.specs.Carried.{input_limit};
+ghost use Rattle.links.specs.declared.entry.Entry.{Entry};
 ghost use Rattle.sts_serve.specs.Frames.{ScriptSpells};
 ghost use Rattle.sts_serve.specs.declared.frame.Frame.{Frame};
 ghost use Rattle.wif_tool.specs.Command.{command, texts};
@@ -10,8 +11,9 @@ ghost use Rattle.wif_tool.specs.Status.{Configured, NoConfiguration, NotConfigur
 use crate::Command;
 use crate::command::command_of;
 use crate::setup::{SetupEnd, read_setup};
+use links::Config;
 use std::alloc::Global;
-use sts_core::{Config, Sts};
+use sts_core::Sts;
 use sts_serve::{Served, run_script};
 use wif_base::{Clock, Disk, Failed, Sink, Source, write_text};
 
@@ -46,7 +48,7 @@ pub fn sts_run<G: Source, I: Source, O: Sink, D: Disk, C: Clock>(
     ensures script { command (texts words.now) ≡ Some Command.Script
         → (StopsBefore result × (input.new ≡ input.old) × (output.new ≡ output.old))
         ⊎ ((setup : _) × Configured (G.left config.old) (G.left config.new) setup
-        × ScriptOutcome setup [] [] (I.left input.old) (I.left input.new) (O.taken output.old) (O.taken output.new) result) }
+        × (after : List Entry) × ScriptOutcome setup [] after (I.left input.old) (I.left input.new) (O.taken output.old) (O.taken output.new) result) }
 
     // The causes of the other statuses.
     ensures words { (result ≡ 2) ↔ (command (texts words.now) ≡ None) }
@@ -86,13 +88,13 @@ fn run_over<I: Source, O: Sink, D: Disk>(
     output: &mut O,
     disk: &mut D,
 ) -> u8
-    ensures outcome { ScriptOutcome setup [] [] (I.left input.old) (I.left input.new) (O.taken output.old) (O.taken output.new) result }
+    ensures outcome { (after : List Entry) × ScriptOutcome setup [] after (I.left input.old) (I.left input.new) (O.taken output.old) (O.taken output.new) result }
     ensures read_fault { result ≡ 3 → Rose (I.faults input.old) (I.faults input.new) }
     ensures write_fault { result ≡ 4 → Rose (O.faults output.old) (O.faults output.new) }
     ensures clock_fault { result ≢ 9 }
     ensures disk { disk.new ≡ disk.old }
 {
-    let mut sts = Sts::start(&mut *disk, setup);
+    let mut sts = Sts::start(alloc, &mut *disk, setup);
     let end = run_script(alloc, &mut sts, input, output);
     // A disk that is lent is known again only once it is given back.
     let _disk = sts.close();

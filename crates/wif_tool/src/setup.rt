@@ -2,8 +2,8 @@ ghost use Rattle.std.specs.Prelude.{◌≡◌, ◌≤◌, IfOk, IsErrOf, length,
 ghost use Rattle.wif_base.specs.Causes.{Rose};
 ghost use Rattle.wif_tool.specs.Status.{ConfigRead, Configured, NotConfigured};
 
+use links::{Config, ConfigError, read_service_config};
 use std::alloc::Global;
-use sts_core::{Config, ConfigError, read_service_config};
 use wif_base::{Failed, Source};
 
 const CONFIG_LIMIT: usize = 65536;

@@ -1,14 +1,14 @@
 use Rattle.std.proofs.Common.{◌≡◌, ◌≤◌, ◌+◌, ◌-◌, ◌*◌, length}
 use Rattle.wif_base.specs.Carried.{input_limit}
-use Rattle.sts_core.specs.State.{journal}
+use Rattle.sts_core.specs.State.{configuration, journal}
 use Rattle.sts_serve.proofs.Runs.{SoFar}
 use Rattle.sts_serve.proofs.script.run_script.Given as goal
 
 abbrev pub invariant-frames : goal.invariant-frames
 invariant-frames g l = record {
-  so_far : SoFar l.fn.sts.config (journal l.fn.sts) (journal l.sts) (g.I.Source.left l.fn.input) (g.I.Source.left l.input)
+  so_far : SoFar (configuration l.fn.sts) (journal l.fn.sts) (journal l.sts) (g.I.Source.left l.fn.input) (g.I.Source.left l.input)
       (g.O.Sink.taken l.fn.output) (g.O.Sink.taken l.output) l.carry l.used;
-  config : l.sts.config ≡ l.fn.sts.config;
+  config : configuration l.sts ≡ configuration l.fn.sts;
   disk : l.sts.disk ≡ l.fn.sts.disk;
   within : l.carry.taken ≤ input_limit;
   source : g.I.Source.faults l.fn.input ≤ g.I.Source.faults l.input;
