@@ -1,5 +1,5 @@
 -- What a text leads to, from its tree of ordinary calls.
-use Rattle.std.proofs.Common.{◌≡◌, ℕ, List, [], ◌∷◌, Option, Some, None, Result, Ok, Err, IfOk, IfErr, inl, inr, refl, sym, ap, ◌∙◌}
+use Rattle.std.proofs.Common.{◌≡◌, ℕ, List, [], ◌∷◌, None, Result, Ok, Err, IfOk, IfErr, inl, inr, refl, sym, ap, ◌∙◌}
 use Rattle.cel_values.specs.declared.expr.Expr.{Expr}
 use Rattle.cel_syntax.specs.declared.draft.Draft.{Draft}
 use Rattle.cel_syntax.specs.declared.macro_faults.MacroFault.{MacroFault}

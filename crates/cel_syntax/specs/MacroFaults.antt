@@ -1,5 +1,5 @@
 -- The faults of macros in a tree of ordinary calls.
-use Rattle.std.specs.Prelude.{◌≡◌, ℕ, List, [], ◌∷◌, ◌++◌, length, Bool, true, false, nat_eq, ◌&&◌, ◌||◌, if◌then◌else◌, is_some, codes, nat_lt, Option, Some, None}
+use Rattle.std.specs.Prelude.{ℕ, List, [], ◌∷◌, ◌++◌, length, Bool, true, false, nat_eq, ◌&&◌, ◌||◌, if◌then◌else◌, is_some, codes, nat_lt, Option, Some, None}
 use Rattle.std.specs.Str.{bytes_eq}
 use Rattle.cel_tokens.specs.declared.token.Name.{Name}
 use Rattle.cel_syntax.specs.declared.error.SyntaxRule.{SyntaxRule}

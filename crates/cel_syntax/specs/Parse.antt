@@ -1,5 +1,5 @@
 -- What a text spells, and its first fault.
-use Rattle.std.specs.Prelude.{◌≡◌, ℕ, List, [], Option, Some, Result, Ok, Err, ◌⊎◌}
+use Rattle.std.specs.Prelude.{◌≡◌, ℕ, List, [], Some, Result, Ok, Err, ◌⊎◌}
 use Rattle.cel_values.specs.declared.expr.Expr.{Expr}
 use Rattle.cel_syntax.specs.declared.draft.Draft.{Draft}
 use Rattle.cel_syntax.specs.declared.error.SyntaxRule.{SyntaxRule}
