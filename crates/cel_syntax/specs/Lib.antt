@@ -7,3 +7,5 @@ pub mod Due
 pub mod Ready
 pub mod Answer
 pub mod Macros
+pub mod MacroFaults
+pub mod Parse

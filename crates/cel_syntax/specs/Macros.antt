@@ -1,5 +1,5 @@
 -- Calls that are macros, and the tree in which they are told apart.
-use Rattle.std.specs.Prelude.{◌≡◌, length, nat_eq, ◌&&◌, ℕ, ◌+◌, List, [], ◌∷◌, map, Bool, true, false, if◌then◌else◌, Option, Some, None, codes}
+use Rattle.std.specs.Prelude.{length, nat_eq, ◌&&◌, ℕ, List, [], ◌∷◌, if◌then◌else◌, Option, Some, None, codes}
 use Rattle.std.specs.Str.{bytes_eq}
 use Rattle.cel_values.specs.declared.expr.MacroKind.{MacroKind}
 use Rattle.cel_values.specs.declared.expr.Expr.{Expr, out-Expr}

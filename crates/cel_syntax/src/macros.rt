@@ -8,8 +8,8 @@ use cel_tokens::Literal;
 use cel_values::{Expr, MacroKind, MapPair};
 use std::alloc::{AllocError, Global};
 
-// The macro of a name with a variable and one argument more.
-fn kind_of(name: &str) -> Option<MacroKind>
+/// The macro of a name with a variable and one argument more.
+pub fn kind_of(name: &str) -> Option<MacroKind>
     ensures { result ≡ kind_named name.now }
 {
     if name == "all" {
