@@ -49,16 +49,31 @@ pub fn read_frame(alloc: Global, bytes: &[u8]) -> Result<Found, AllocError>
     if end[0] != b'\n' {
         return Ok(Found::Never);
     }
-    let path = text_of(alloc, path)?;
-    let bearer = bearer_of(alloc, bearer)?;
-    let body = Bytes::copy_of(alloc, body)?;
-    let frame = Frame {
-        path,
-        bearer,
-        moment,
-        body,
-    };
+    let frame = frame_of(alloc, path, bearer, moment, body)?;
     Ok(Found::Whole(frame, bytes.len() - end.len() + 1))
+}
+
+fn frame_of(
+    alloc: Global,
+    path: &[u8],
+    bearer: &[u8],
+    moment: u64,
+    body: &[u8],
+) -> Result<Frame, AllocError>
+    requires path { AllByRecursion IsVisible path.now }
+    requires bearer { IsWord 8192 bearer.now }
+    ensures path { IfOk result (λ frame. frame.path ≡ path.now) }
+    ensures bearer { IfOk result (λ frame. bearer_text frame.bearer ≡ bearer.now) }
+    ensures form { IfOk result (λ frame. IfSome frame.bearer IsBearer) }
+    ensures moment { IfOk result (λ frame. frame.moment ≡ moment) }
+    ensures body { IfOk result (λ frame. frame.body ≡ body.now) }
+{
+    Ok(Frame {
+        path: text_of(alloc, path)?,
+        bearer: bearer_of(alloc, bearer)?,
+        moment,
+        body: Bytes::copy_of(alloc, body)?,
+    })
 }
 
 fn bearer_of(alloc: Global, word: &[u8]) -> Result<Option<Text>, AllocError>

@@ -83,22 +83,23 @@ returns c = let p = c.in-Word.ensures in let b = c.in-Word-cut_word.ensures in l
     let n = number_some c.in-Some-2.is c.in_ok-size.ensures in
     let rest = c.in-Word-cut_word-3.rest.now in
     let end = c.split_at.result.1.now in
-    let f : Frame = record { path = c.in_ok-path.path; bearer = c.in_ok-bearer.bearer; moment = c.in-Some.moment; body = c.in_ok-body.body } in
-    let path : f.path ≡ c.in-Word.word.now = c.in_ok-path.ensures in
-    let body : f.body ≡ c.split_at.result.0.now = c.in_ok-body.ensures in
+    let f : Frame = c.in_ok-frame.frame in
+    let moment : f.moment ≡ c.in-Some.moment = c.in_ok-frame.ensures.moment in
+    let path : f.path ≡ c.in-Word.word.now = c.in_ok-frame.ensures.path in
+    let body : f.body ≡ c.split_at.result.0.now = c.in_ok-frame.ensures.body in
     let sized : length f.body ≡ c.in-Some-2.size = omega (arith, ap length body, c.split_at.ensures.front_len) in
     let some : 0 < length end = omega (arith, ap length c.split_at.ensures.back, length-drop c.in-Some-2.size rest) in
     let feed : get_or end 0 0 ≡ 10 = omega arith in
     let cons : end ≡ 10 ∷ drop 1 end = drop_more end 0 0 some ∙ ap (λ (k : ℕ). k ∷ drop 1 end) feed in
     let last : rest ≡ f.body ++ (10 ∷ drop 1 end) = sym (take-append-drop c.in-Some-2.size rest) ∙ ap (λ (l : List ℕ). l ++ drop c.in-Some-2.size rest) (sym c.split_at.ensures.front ∙ sym body)
     ∙ ap (λ (l : List ℕ). f.body ++ l) (sym c.split_at.ensures.back ∙ cons) in
-    let all = whole f c.args.bytes.now _ _ _ _ _ _ _ (drop 1 end) (p.1 ∙ ap (λ (w : List ℕ). w ++ (32 ∷ c.in-Word.rest.now)) (sym path)) b.1 c.in_ok-bearer.ensures.text m.1 at.1 s.1
+    let all = whole f c.args.bytes.now _ _ _ _ _ _ _ (drop 1 end) (p.1 ∙ ap (λ (w : List ℕ). w ++ (32 ∷ c.in-Word.rest.now)) (sym path)) b.1 c.in_ok-frame.ensures.bearer m.1 (at.1 ∙ ap decimal (sym moment)) s.1
     (n.1 ∙ ap decimal (sym sized)) last in
     let there = found f c.args.bytes.now end (drop 1 end) all (omega (arith, ap length cons)) in (
       record {
         path = subst (λ (w : List ℕ). IsWord 2048 w) (sym path) p.0;
-        bearer = c.in_ok-bearer.ensures.form;
-        moment = at.0;
+        bearer = c.in_ok-frame.ensures.form;
+        moment = omega (arith, at.0, moment);
         body = omega (arith, sized, n.0);
       },
       there.0,
