@@ -1,0 +1,9 @@
+//! The commands of an administrator, read from JSON.
+#![tactic(auto)]
+
+mod command;
+mod members;
+mod reading;
+
+pub use command::{Command, CommandFault, CommandMember};
+pub use reading::read_command;
