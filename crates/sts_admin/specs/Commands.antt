@@ -3,7 +3,8 @@ use Rattle.std.specs.Prelude.{◌≡◌, ◌⊎◌, ℕ, List, Option, None, Som
 use Rattle.std.specs.Str.{bytes_eq}
 use Rattle.serde_json.specs.Data.{Data}
 use Rattle.json_text.specs.Document.{text_at}
-use Rattle.iam_names.specs.Forms.{is_project, is_id, is_account, is_role, is_scope_word}
+use Rattle.iam_names.specs.Forms.{is_project, is_id, is_account, is_role, is_scope_word, is_resource}
+use Rattle.sts_admin.specs.Bindings.{bindings_at}
 use Rattle.sts_admin.specs.Members.{name_at, disabled_at, permissions_at, scope_set_at}
 use Rattle.sts_admin.specs.declared.command.Command.{Command}
 use Rattle.sts_admin.specs.declared.command.CommandFault.{CommandFault}
@@ -45,13 +46,20 @@ scope_command d = do
   permissions ← needed CommandMember.Permissions (scope_set_at d)
   Ok (Command.Scope word permissions)
 
+unfoldable pub policy_command : Data → Result Command CommandFault
+policy_command d = do
+  resource ← needed CommandMember.Resource (name_at is_resource (codes "resource") d)
+  bindings ← needed CommandMember.Bindings (bindings_at d)
+  Ok (Command.Policy resource bindings)
+
 abbrev pub command_of_kind : List ℕ → Data → Result Command CommandFault
 command_of_kind kind d =
     if bytes_eq kind (codes "pool") then pool_command d
     else (if bytes_eq kind (codes "account") then account_command d
     else (if bytes_eq kind (codes "role") then role_command d
     else (if bytes_eq kind (codes "scope") then scope_command d
-    else Err Kind)))
+    else (if bytes_eq kind (codes "policy") then policy_command d
+    else Err Kind))))
 
 abbrev pub command_under : Option (List ℕ) → Data → Result Command CommandFault
 command_under None d = Err Kind

@@ -1,6 +1,7 @@
 //! The commands of an administrator, read from JSON.
 #![tactic(auto)]
 
+mod bindings;
 mod command;
 mod members;
 mod reading;

@@ -5,9 +5,12 @@ ghost use Rattle.sts_admin.specs.Commands.{command_of, Gives};
 ghost use Rattle.sts_admin.specs.declared.command.Command.{Command};
 ghost use Rattle.sts_admin.specs.declared.command.CommandFault.{CommandFault};
 
+use crate::bindings::bindings_at;
 use crate::command::{Command, CommandFault, CommandMember};
 use crate::members::{disabled_at, name_at, permissions_at, scope_set_at};
-use iam_names::{AccountForm, PoolIdForm, PoolName, ProjectForm, RoleForm, ScopeWordForm};
+use iam_names::{
+    AccountForm, PoolIdForm, PoolName, ProjectForm, ResourceForm, RoleForm, ScopeWordForm,
+};
 use json_text::text_at;
 use serde_json::Value;
 use std::alloc::Global;
@@ -70,6 +73,19 @@ fn scope_command(alloc: Global, json: &Value) -> Result<Command, CommandFault>
     Ok(Command::Scope { word, permissions })
 }
 
+#[tactic(auto, unfolding(crate::specs::Commands::policy_command))]
+fn policy_command(alloc: Global, json: &Value) -> Result<Command, CommandFault>
+    ensures { Gives result (commands.policy_command (view json.now)) }
+{
+    let Some(resource) = name_at::<ResourceForm>(alloc, json, "resource")? else {
+        return Err(CommandFault::Field(CommandMember::Resource));
+    };
+    let Some(bindings) = bindings_at(alloc, json)? else {
+        return Err(CommandFault::Field(CommandMember::Bindings));
+    };
+    Ok(Command::Policy { resource, bindings })
+}
+
 fn command_of_kind(alloc: Global, kind: &str, json: &Value) -> Result<Command, CommandFault>
     ensures { Gives result (commands.command_of_kind kind.now (view json.now)) }
 {
@@ -78,6 +94,7 @@ fn command_of_kind(alloc: Global, kind: &str, json: &Value) -> Result<Command, C
         "account" => account_command(alloc, json),
         "role" => role_command(alloc, json),
         "scope" => scope_command(alloc, json),
+        "policy" => policy_command(alloc, json),
         _ => Err(CommandFault::Kind),
     }
 }
@@ -98,7 +115,7 @@ pub fn read_command(alloc: Global, json: &Value) -> Result<Command, CommandFault
     ensures refused { IfErr result (λ fault. fault ≢ CommandFault.Memory
         → command_of (view json.now) ≡ Err fault) }
     ensures good { (command : Command) → command_of (view json.now) ≡ Ok command
-        → IfErr result (λ fault. fault ≡ CommandFault.Memory) }
+        → (result ≡ Ok command) ⊎ (result ≡ Err CommandFault.Memory) }
     ensures faulty { (fault : CommandFault) → command_of (view json.now) ≡ Err fault
         → (result ≡ Err fault) ⊎ (result ≡ Err CommandFault.Memory) }
 {
