@@ -5,6 +5,8 @@ mod bindings;
 mod command;
 mod members;
 mod reading;
+#[cfg(test)]
+mod tests;
 
 pub use command::{Command, CommandFault, CommandMember};
 pub use reading::read_command;
