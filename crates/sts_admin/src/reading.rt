@@ -109,7 +109,17 @@ fn command_from(alloc: Global, json: &Value) -> Result<Command, CommandFault>
 }
 
 /// The command that a JSON object is, or the first rule that it fails: `kind` first, then the members of
-/// its kind in the order of the command's own fields. Other members don't count.
+/// its kind in this order. Other members don't count.
+///
+/// - `pool`: `project`, `pool`, `disabled`
+/// - `account`: `email`, `disabled`
+/// - `role`: `role`, `permissions`
+/// - `scope`: `scope`, `permissions`, which may also be the text `*`
+/// - `policy`: `resource`, `bindings`
+///
+/// `disabled` is a boolean, false where it isn't there. `permissions` is an array of at most 256 texts,
+/// `bindings` one of at most 64 objects, each with a `role` and with `members`, an array of at most 64
+/// texts. What isn't an object has no `kind`.
 pub fn read_command(alloc: Global, json: &Value) -> Result<Command, CommandFault>
     ensures read { IfOk result (λ command. command_of (view json.now) ≡ Ok command) }
     ensures refused { IfErr result (λ fault. fault ≢ CommandFault.Memory
