@@ -1,0 +1,4 @@
+pub mod Bindings
+pub mod Commands
+pub mod Members
+pub mod Names

@@ -1,0 +1,15 @@
+-- The names of a command's members.
+use Rattle.std.specs.Prelude.{ℕ, List, codes}
+use Rattle.sts_admin.specs.declared.command.CommandMember.{CommandMember}
+use Rattle.sts_admin.specs.declared.command.CommandMember.TheVariants.{Project, Pool, Disabled, Email, Role, Permissions, Scope, Resource, Bindings}
+
+abbrev pub member_name : CommandMember → List ℕ
+member_name Project = codes "project"
+member_name Pool = codes "pool"
+member_name Disabled = codes "disabled"
+member_name Email = codes "email"
+member_name Role = codes "role"
+member_name Permissions = codes "permissions"
+member_name Scope = codes "scope"
+member_name Resource = codes "resource"
+member_name Bindings = codes "bindings"

@@ -1,0 +1,91 @@
+use allow_policy::{Binding, ScopeSet};
+use base_types::Items;
+use iam_names::{Account, Permission, PoolName, Resource, Role, ScopeWord};
+use std::alloc::AllocError;
+
+/// What an administrator asks to put, in place of what stands under the name.
+#[derive(Debug, Drop)]
+pub enum Command {
+    /// A pool, and whether it is switched off.
+    Pool {
+        pool: PoolName,
+        disabled: bool,
+    },
+    /// A service account, and whether it is switched off.
+    Account {
+        account: Account,
+        disabled: bool,
+    },
+    /// A role with its permissions.
+    Role {
+        role: Role,
+        permissions: Items<Permission>,
+    },
+    /// A scope word and what it stands for.
+    Scope {
+        word: ScopeWord,
+        permissions: ScopeSet,
+    },
+    /// The allow policy of a resource.
+    Policy {
+        resource: Resource,
+        bindings: Items<Binding>,
+    },
+}
+
+/// A member of a command's object.
+#[derive(Clone, Copy, Debug, PartialEq, Eq)]
+pub enum CommandMember {
+    Project,
+    Pool,
+    Disabled,
+    Email,
+    Role,
+    Permissions,
+    Scope,
+    Resource,
+    Bindings,
+}
+
+/// The first rule that a command fails.
+#[derive(Clone, Copy, Debug, PartialEq, Eq)]
+pub enum CommandFault {
+    /// `kind` isn't there, or is none of the texts `pool`, `account`, `role`, `scope` and `policy`.
+    Kind,
+    /// The member isn't there and has no default, or is of another type or form.
+    Field(CommandMember),
+    Memory,
+}
+
+impl CommandMember {
+    ghost use Rattle.std.specs.Prelude.{◌≡◌};
+    ghost use Rattle.sts_admin.specs.Names.{member_name};
+
+    /// The member's name in the object.
+    pub fn name(self) -> &'static str
+        ensures { result.now ≡ member_name self }
+    {
+        match self {
+            CommandMember::Project => "project",
+            CommandMember::Pool => "pool",
+            CommandMember::Disabled => "disabled",
+            CommandMember::Email => "email",
+            CommandMember::Role => "role",
+            CommandMember::Permissions => "permissions",
+            CommandMember::Scope => "scope",
+            CommandMember::Resource => "resource",
+            CommandMember::Bindings => "bindings",
+        }
+    }
+}
+
+impl From<AllocError> for CommandFault {
+    ghost use Rattle.std.specs.Prelude.{◌≡◌};
+    ghost use Rattle.sts_admin.specs.declared.command.CommandFault.TheVariants.{Memory};
+
+    ghost from_gives = { λ _ fault. fault ≡ Memory };
+
+    fn from(_error: AllocError) -> Self {
+        CommandFault::Memory
+    }
+}

@@ -1,0 +1,12 @@
+//! The commands of an administrator, read from JSON.
+#![tactic(auto)]
+
+mod bindings;
+mod command;
+mod members;
+mod reading;
+#[cfg(test)]
+mod tests;
+
+pub use command::{Command, CommandFault, CommandMember};
+pub use reading::read_command;
