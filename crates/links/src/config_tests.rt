@@ -2,7 +2,11 @@ use crate::{ConfigError, read_service_config};
 use std::alloc::{AllocError, Global};
 use std::test::Fail;
 
-const KEY: &str = "U1NTU1NTU1NTU1NTU1NTU1NTU1NTU1NTU1NTU1NTU1M";
+const ISSUER: &str = "\"i\"";
+
+const ADMIN: &str = "\"admin-secret-000001\"";
+
+const QUOTED_KEY: &str = "\"U1NTU1NTU1NTU1NTU1NTU1NTU1NTU1NTU1NTU1NTU1M\"";
 
 const START: &str =
     "{\"project\":\"1234\",\"pool\":\"ci-pool\",\"provider\":\"github\",\"issuer\":\"i\",\"key\":\"U1NTU1NTU1NTU1NTU1NTU1NTU1NTU1NTU1NTU1NTU1M\"}";
@@ -15,24 +19,24 @@ fn config_text(
     admin: &str,
     start: &str,
 ) -> Result<String, AllocError> {
-    let gate = "\"gate-secret-0000001\"";
     let mut text = "{\"more\":[1.5]".to_owned(alloc)?;
-    for (name, member) in [
-        ("issuer", issuer),
-        ("key", key),
-        ("admin", admin),
-        ("gate", gate),
-        ("start", start),
-    ] {
-        if !member.is_empty() {
-            text.push_str(",\"")?;
-            text.push_str(name)?;
-            text.push_str("\":")?;
-            text.push_str(member)?;
-        }
-    }
+    put_member(&mut text, "issuer", issuer)?;
+    put_member(&mut text, "key", key)?;
+    put_member(&mut text, "admin", admin)?;
+    put_member(&mut text, "gate", "\"gate-secret-0000001\"")?;
+    put_member(&mut text, "start", start)?;
     text.push('}')?;
     Ok(text)
+}
+
+fn put_member(text: &mut String, name: &str, member: &str) -> Result<(), AllocError> {
+    if member.is_empty() {
+        return Ok(());
+    }
+    text.push_str(",\"")?;
+    text.push_str(name)?;
+    text.push_str("\":")?;
+    text.push_str(member)
 }
 
 // A JSON text of a letter so many times.
@@ -76,20 +80,28 @@ fn each_member_of_a_configuration_has_its_form(rt: HostRuntime) -> Result<(), Fa
         ("issuer", 1, 1, false),
     ];
     for (member, count, wrong, wanted) in cases {
-        let text = letters(alloc, "A", count)?;
-        let text = if wrong == 1 { "7" } else { text.as_str() };
-        let issuer = if member == "issuer" { text } else { "\"i\"" };
-        let key = format!(in alloc; "\"{KEY}\"")?;
-        let key = if member == "key" { text } else { key.as_str() };
-        let admin = if member == "admin" {
-            text
-        } else {
-            "\"admin-secret-000001\""
-        };
-        let config = config_text(alloc, issuer, key, admin, "")?;
+        let text = member_text(alloc, count, wrong)?;
+        let config = config_with(alloc, member, &text)?;
         assert_eq!(rt; is_read(alloc, &config), Some(wanted), "{member} {count}");
     }
     Ok(())
+}
+
+// A text of so many letters, or what is no text.
+fn member_text(alloc: Global, count: usize, wrong: usize) -> Result<String, AllocError> {
+    if wrong == 1 {
+        return "7".to_owned(alloc);
+    }
+    letters(alloc, "A", count)
+}
+
+// A configuration with this JSON text under that name.
+fn config_with(alloc: Global, name: &str, text: &str) -> Result<String, AllocError> {
+    match name {
+        "issuer" => config_text(alloc, text, QUOTED_KEY, ADMIN, ""),
+        "key" => config_text(alloc, ISSUER, text, ADMIN, ""),
+        _ => config_text(alloc, ISSUER, QUOTED_KEY, text, ""),
+    }
 }
 
 #[test]
@@ -119,14 +131,13 @@ fn a_start_provider_has_its_form(rt: HostRuntime) -> Result<(), Fail> {
         ("1M\"", "1M=\"", false),
         ("1M\"", "1N\"", false),
     ];
-    let key = format!(in alloc; "\"{KEY}\"")?;
     for (part, other, wanted) in cases {
         let start = START.replacen(alloc, part, other, 1)?;
-        let config = config_text(alloc, "\"i\"", &key, "\"admin-secret-000001\"", &start)?;
+        let config = config_text(alloc, ISSUER, QUOTED_KEY, ADMIN, &start)?;
         assert_eq!(rt; is_read(alloc, &config), Some(wanted), "{start}");
     }
     for start in ["null", "[]", "{}", "\"x\"", "1"] {
-        let config = config_text(alloc, "\"i\"", &key, "\"admin-secret-000001\"", start)?;
+        let config = config_text(alloc, ISSUER, QUOTED_KEY, ADMIN, start)?;
         assert_eq!(rt; is_read(alloc, &config), Some(false), "{start}");
     }
     Ok(())
@@ -135,8 +146,7 @@ fn a_start_provider_has_its_form(rt: HostRuntime) -> Result<(), Fail> {
 #[test]
 fn a_configuration_is_an_object_of_at_most_65536_bytes(rt: HostRuntime) -> Result<(), Fail> {
     let alloc = rt.alloc();
-    let key = format!(in alloc; "\"{KEY}\"")?;
-    let whole = config_text(alloc, "\"i\"", &key, "\"admin-secret-000001\"", "")?;
+    let whole = config_text(alloc, ISSUER, QUOTED_KEY, ADMIN, "")?;
     let mut padded = whole.as_bytes().to_vec(alloc)?;
     for _ in whole.len()..65536 {
         padded.push(b' ')?;

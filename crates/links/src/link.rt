@@ -5,6 +5,9 @@ ghost use Rattle.links.specs.Payload.{link_chain};
 use base_types::{Items, Text};
 use iam_names::{Identity, PoolName, ScopeWord};
 
+/// How long a token lasts at most, in seconds.
+const MAX_LIFETIME: u64 = 3600;
+
 /// What an outside token gave, read with the provider as it stood then.
 #[derive(Debug, Drop)]
 pub struct Source {
@@ -38,7 +41,7 @@ impl Link {
         ensures { (number : ℕ) → result ≡ exp_of (link_chain number self.now) }
     {
         match &self.kind {
-            LinkKind::Federated(source) => source.exp.min(self.at.saturating_add(3600)),
+            LinkKind::Federated(source) => source.exp.min(self.at.saturating_add(MAX_LIFETIME)),
         }
     }
 }

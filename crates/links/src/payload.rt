@@ -13,9 +13,6 @@ use iam_names::{Identity, PoolName, ScopeWord};
 use serde_json::{Map, Value};
 use std::alloc::{AllocError, Global};
 
-/// How long a token lasts at most, in seconds.
-const MAX_LIFETIME: u64 = 3600;
-
 /// Words with one space between.
 pub fn words_text(alloc: Global, words: &[ScopeWord]) -> Result<Text, AllocError>
     ensures { IfOk result (λ text. text ≡ joined words.now) }
@@ -140,13 +137,6 @@ pub(crate) fn subject_name(alloc: Global, source: &Source) -> Result<Text, Alloc
     Ok(Text::new(format!(in alloc; "principal://{path}/subject/{subject}")?))
 }
 
-fn end_of(at: u64, source: &Source) -> u64
-    ensures { result ≡ min source.now.exp (at + 3600) }
-{
-    let exp = source.exp;
-    exp.min(at.saturating_add(MAX_LIFETIME))
-}
-
 #[tactic(auto, unfolding(crate::specs::Payload::payload_data, crate::specs::Facts::facts_of))]
 fn put_claims(
     alloc: Global,
@@ -164,7 +154,7 @@ fn put_claims(
     if let Some(actors) = actors_value(alloc, source.may_act.as_slice())? {
         serde_json::put(members, alloc, "may_act", actors)?;
     }
-    let exp = Value::from(end_of(link.at, source));
+    let exp = Value::from(link.exp());
     serde_json::put(members, alloc, "exp", exp)?;
     serde_json::put(members, alloc, "iat", Value::from(link.at))?;
     put_text(alloc, members, "iss", issuer)?;
