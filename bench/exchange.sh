@@ -1,12 +1,7 @@
 #!/usr/bin/env bash
 # Exchanges and introspections a second, of `sts script` and of a plain program in Python over the same frames, and
 # an introspection's cost behind 10, 1,000 and 100,000 recorded links. Both must write the same replies.
-set -eu
-top=$(cd "$(dirname "$0")/.." && pwd)
-work=$(mktemp -d)
-trap 'rm -rf "$work"' EXIT
-"$top/sts" script "$top/examples/first/config.json" none </dev/null
-cp "$top/crates/wif_tool/out/wif_tool" "$work/sts"
+. "$(dirname "$0")/setup.sh"
 python3 - "$top" "$work" <<'END'
 import subprocess, sys, time
 top, work = sys.argv[1:]

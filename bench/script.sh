@@ -1,12 +1,7 @@
 #!/usr/bin/env bash
 # Frames a second and the peak of memory of `sts script`, over scripts of 10,000, 100,000 and 1,000,000 frames
 # without a route, and of as many introspections.
-set -eu
-top=$(cd "$(dirname "$0")/.." && pwd)
-work=$(mktemp -d)
-trap 'rm -rf "$work"' EXIT
-"$top/sts" script "$top/examples/first/config.json" none </dev/null
-cp "$top/crates/wif_tool/out/wif_tool" "$work/sts"
+. "$(dirname "$0")/setup.sh"
 cp "$top/examples/first/config.json" "$work/config.json"
 printf '%-14s %10s %10s %12s %10s\n' kind frames seconds frames/s peak-KiB
 for kind in no-route introspection; do
