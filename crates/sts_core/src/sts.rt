@@ -1,5 +1,5 @@
 ghost use Rattle.std.specs.Prelude.{◌≡◌, ◌≤◌, IfOk, OnOk, OnErr, []};
-ghost use Rattle.sts_core.specs.Machine.{step, step_of, with_entry};
+ghost use Rattle.sts_core.specs.Machine.{content_of, exchange as exchange_of, introspection, step, with_entry};
 
 use crate::exchange::exchange;
 use crate::introspection::introspect;
@@ -70,7 +70,8 @@ impl<D: Disk> Sts<D> {
         self.disk
     }
 
-    /// Answers a request of any route, at a moment in seconds since 1970-01-01T00:00:00Z.
+    /// Answers a request of any route, at a moment in seconds since 1970-01-01T00:00:00Z. With 2^32 - 1 entries in
+    /// the journal an exchange or introspection stops for want of memory.
     pub fn answer(&mut self, alloc: Global, request: &Request, at: u64) -> Result<Reply, Stop>
         requires moment { at ≤ 200_000_000_000 }
         ensures reply { IfOk result (λ reply. reply ≡ (step (configuration self.old) (journal self.old) request.now at).reply) }
@@ -79,27 +80,39 @@ impl<D: Disk> Sts<D> {
         ensures disk { self.new.disk ≡ self.old.disk }
         ensures refused { OnErr result (self.new.state.content ≡ self.old.state.content) }
     {
-        // Its contract says that the state is the one that its entries leave.
-        let _count = self.state.entry_count();
-        self.answer_now(alloc, request, at)
+        match &request.route {
+            Route::Token => self.exchange(alloc, request, at),
+            Route::Introspect => self.introspect(alloc, request, at),
+            _ => Ok(not_built(alloc)?),
+        }
     }
 
-    // The same, told by the state as it is.
-    fn answer_now(&mut self, alloc: Global, request: &Request, at: u64) -> Result<Reply, Stop>
+    /// Answers an exchange of an outside token for an access token (RFC 8693).
+    pub fn exchange(&mut self, alloc: Global, request: &Request, at: u64) -> Result<Reply, Stop>
         requires moment { at ≤ 200_000_000_000 }
-        ensures reply { IfOk result (λ reply. reply ≡ (step_of request.now.route self.old.gate self.old.state.content request.now at).reply) }
-        ensures journal { OnOk result (journal self.new ≡ with_entry (journal self.old) (step_of request.now.route self.old.gate self.old.state.content request.now at).entry) }
+        ensures reply { IfOk result (λ reply. reply ≡ (exchange_of (content_of (configuration self.old) (journal self.old)) request.now at).reply) }
+        ensures journal { OnOk result (journal self.new ≡ with_entry (journal self.old) (exchange_of (content_of (configuration self.old) (journal self.old)) request.now at).entry) }
         ensures config { configuration self.new ≡ configuration self.old }
         ensures disk { self.new.disk ≡ self.old.disk }
         ensures refused { OnErr result (self.new.state.content ≡ self.old.state.content) }
     {
+        // Its contract says that the state is the one that its entries leave.
+        let _count = self.state.entry_count();
         if self.state.is_full() {
             return Err(Stop::Memory);
         }
-        match &request.route {
-            Route::Token => exchange(alloc, &mut self.state, request, at),
-            Route::Introspect => Ok(introspect(alloc, &self.gate, &self.state, request, at)?),
-            _ => Ok(not_built(alloc)?),
+        exchange(alloc, &mut self.state, request, at)
+    }
+
+    /// Answers an introspection (RFC 7662).
+    pub fn introspect(&self, alloc: Global, request: &Request, at: u64) -> Result<Reply, Stop>
+        ensures { IfOk result (λ reply. reply ≡ introspection self.now.gate (content_of (configuration self.now) (journal self.now)) request.now at) }
+    {
+        // Its contract says that the state is the one that its entries leave.
+        let _count = self.state.entry_count();
+        if self.state.is_full() {
+            return Err(Stop::Memory);
         }
+        Ok(introspect(alloc, &self.gate, &self.state, request, at)?)
     }
 }

@@ -64,7 +64,7 @@ pub fn sts_run<G: Source, I: Source, O: Sink, D: Disk, C: Clock>(
     ensures clock_fault { result ≡ 9 → Rose (C.faults clock.old) (C.faults clock.new) }
     ensures no_other { result ≤ 10 }
 
-    // `script` makes no call on the disk or the clock.
+    // The disk and the clock end as they began.
     ensures disk { disk.new ≡ disk.old }
     ensures clock { clock.new ≡ clock.old }
 {
