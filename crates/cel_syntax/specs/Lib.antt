@@ -9,3 +9,4 @@ pub mod Answer
 pub mod Macros
 pub mod MacroFaults
 pub mod Parse
+pub mod Print

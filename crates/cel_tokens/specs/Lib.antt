@@ -1,3 +1,4 @@
 pub mod Words
 pub mod Lexing
 pub mod FirstWord
+pub mod Spelling

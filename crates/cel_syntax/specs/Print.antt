@@ -1,0 +1,162 @@
+-- The text that a tree is printed as: brackets stand where the grammar needs them, and around an integer behind a sign.
+use Rattle.std.specs.Prelude.{ℕ, ℤ, ◌+◌, pos, negsuc, List, [], ◌∷◌, ◌++◌, Bool, true, false, nat_eq, nat_le, ◌||◌, ◌&&◌, if◌then◌else◌, Option, Some, None, codes}
+use Rattle.std.specs.Fmt.{signed_decimal}
+use Rattle.cel_values.specs.declared.expr.BinaryOp.{BinaryOp}
+use Rattle.cel_values.specs.declared.expr.BinaryOp.TheVariants.{Or, And, Lt, Le, Gt, Ge, Eq, Ne, Within, Add, Sub, Mul, Div, Rem}
+use Rattle.cel_values.specs.declared.expr.MacroKind.{MacroKind}
+use Rattle.cel_values.specs.declared.expr.Expr.{Expr, fold-Expr}
+use Rattle.cel_values.specs.declared.expr.Expr.TheOpen.{Expr-F, MapPair-F}
+use Rattle.cel_tokens.specs.Spelling.{quoted}
+use Rattle.cel_syntax.specs.Grammar.{strength}
+
+-- ---- the words
+
+abbrev pub operator : BinaryOp → List ℕ
+operator Or = codes "||"
+operator And = codes "&&"
+operator Lt = codes "<"
+operator Le = codes "<="
+operator Gt = codes ">"
+operator Ge = codes ">="
+operator Eq = codes "=="
+operator Ne = codes "!="
+operator Within = codes "in"
+operator Add = codes "+"
+operator Sub = codes "-"
+operator Mul = codes "*"
+operator Div = codes "/"
+operator Rem = codes "%"
+
+abbrev pub macro_name : MacroKind → List ℕ
+macro_name MacroKind.All = codes "all"
+macro_name MacroKind.Exists = codes "exists"
+macro_name MacroKind.ExistsOne = codes "exists_one"
+macro_name MacroKind.Filter = codes "filter"
+macro_name MacroKind.Map = codes "map"
+
+abbrev pub boolean : Bool → List ℕ
+boolean true = codes "true"
+boolean false = codes "false"
+
+-- ---- the forms
+
+-- the form in which a tree is printed
+pub data Form : Type 0 where
+  choice : Form
+  -- of this strength
+  binary : ℕ → Form
+  inverse : Form
+  negative : Form
+  -- an integer, without and behind a sign
+  integer : Form
+  signed : Form
+  -- every other member
+  member : Form
+
+-- the grammar's level of a form: expr is level 0, or 1, and 2, rel 3, add 4, mul 5, unary 6, member 7
+abbrev pub level : Form → ℕ
+level choice = 0
+level (binary n) = n
+level inverse = 6
+level negative = 6
+level signed = 6
+level integer = 7
+level member = 7
+
+-- what stands behind `!` without brackets
+abbrev pub may_be_inverted : Form → Bool
+may_be_inverted inverse = true
+may_be_inverted form = nat_le 7 (level form)
+
+-- what stands behind `-` without brackets
+abbrev pub may_be_negated : Form → Bool
+may_be_negated negative = true
+may_be_negated member = true
+may_be_negated form = false
+
+-- a tree's form and text
+pub record Printed : Type 0 where
+  pub form : Form
+  pub text : List ℕ
+
+abbrev pub grouped : List ℕ → List ℕ
+grouped text = codes "(" ++ (text ++ codes ")")
+
+abbrev pub grouped_unless : Bool → List ℕ → List ℕ
+grouped_unless true text = text
+grouped_unless false text = grouped text
+
+-- where a form of this level or a stronger one may stand
+abbrev pub at_level : ℕ → Printed → List ℕ
+at_level n p = grouped_unless (nat_le n (level p.form)) p.text
+
+abbrev pub listed : List Printed → List ℕ
+listed [] = []
+listed (p ∷ []) = p.text
+listed (p ∷ q ∷ ps) = p.text ++ (codes ", " ++ listed (q ∷ ps))
+
+abbrev pub texts_listed : List (List ℕ) → List ℕ
+texts_listed [] = []
+texts_listed (text ∷ []) = text
+texts_listed (text ∷ next ∷ texts) = text ++ (codes ", " ++ texts_listed (next ∷ texts))
+
+abbrev pub called : List ℕ → List Printed → List ℕ
+called name items = name ++ (codes "(" ++ (listed items ++ codes ")"))
+
+abbrev pub method : Printed → List ℕ → List ℕ
+method target rest = at_level 7 target ++ (codes "." ++ rest)
+
+abbrev pub call : Option Printed → List ℕ → List Printed → List ℕ
+call None name items = called name items
+call (Some target) name items = method target (called name items)
+
+abbrev pub whole : List ℕ → Printed
+whole text = record { form = member; text = text }
+
+abbrev pub named : List ℕ → Printed
+named name = whole name
+
+abbrev pub macro_items : List ℕ → Option Printed → Printed → List Printed
+macro_items variable None value = named variable ∷ value ∷ []
+macro_items variable (Some test) value = named variable ∷ test ∷ value ∷ []
+
+abbrev pub integer_form : ℤ → Form
+integer_form (pos n) = integer
+integer_form (negsuc n) = signed
+
+abbrev pub printed_binary : BinaryOp → Printed → Printed → Printed
+printed_binary op a b = record {
+  form = binary (strength op);
+  text = at_level (strength op) a ++ (codes " " ++ (operator op ++ (codes " " ++ at_level (strength op + 1) b)));
+}
+
+abbrev pub printed_choice : Printed → Printed → Printed → Printed
+printed_choice c a b = record { form = choice; text = at_level 1 c ++ (codes " ? " ++ (at_level 1 a ++ (codes " : " ++ b.text))) }
+
+abbrev pub print_step : Expr-F Printed (List ℕ) → Printed
+print_step Expr-F.Null = whole (codes "null")
+print_step (Expr-F.Bool b) = whole (boolean b)
+print_step (Expr-F.Int z) = record { form = integer_form z; text = signed_decimal z }
+print_step (Expr-F.Text t) = whole (quoted t)
+print_step (Expr-F.Name n) = whole n
+print_step (Expr-F.List items) = whole (codes "[" ++ (listed items ++ codes "]"))
+print_step (Expr-F.Map pairs) = whole (codes "{" ++ (texts_listed pairs ++ codes "}"))
+print_step (Expr-F.Select e field) = whole (method e field)
+print_step (Expr-F.Has e field) = whole (codes "has(" ++ (method e field ++ codes ")"))
+print_step (Expr-F.Index e i) = whole (at_level 7 e ++ (codes "[" ++ (i.text ++ codes "]")))
+print_step (Expr-F.Call target name items) = whole (call target name items)
+print_step (Expr-F.Not e) = record { form = inverse; text = codes "!" ++ grouped_unless (may_be_inverted e.form) e.text }
+print_step (Expr-F.Neg e) = record { form = negative; text = codes "-" ++ grouped_unless (may_be_negated e.form) e.text }
+print_step (Expr-F.Binary op a b) = printed_binary op a b
+print_step (Expr-F.Cond c a b) = printed_choice c a b
+print_step (Expr-F.Macro kind range variable test value) = whole (method range (called (macro_name kind) (macro_items variable test value)))
+
+abbrev pub pair_step : MapPair-F Printed (List ℕ) → List ℕ
+pair_step pair = pair.key.text ++ (codes ": " ++ pair.value.text)
+
+abbrev pub printed : Expr → Printed
+printed = fold-Expr Printed (List ℕ) print_step pair_step
+
+-- the text that a tree is printed as
+unfoldable pub printed_text : Expr → List ℕ
+printed_text e = (printed e).text
