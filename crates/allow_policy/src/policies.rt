@@ -41,7 +41,7 @@ impl Policies {
     }
 
     /// Takes memory for a further put of each kind.
-    pub(crate) fn make_room(&mut self) -> Result<(), AllocError>
+    pub fn make_room(&mut self) -> Result<(), AllocError>
         ensures lists { self.new.lists ≡ self.old.lists }
         ensures room { OnOk result (1 ≤ self.new.spare) }
     {

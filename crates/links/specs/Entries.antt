@@ -1,8 +1,15 @@
 -- The forms that entries have.
-use Rattle.std.specs.Prelude.{◌≤◌}
+use Rattle.std.specs.Prelude.{◌≡◌, ◌≤◌, true, ⊤}
 use Rattle.links.specs.declared.entry.Entry.{Entry}
-use Rattle.links.specs.declared.entry.Entry.TheVariants.{Federated}
+use Rattle.links.specs.declared.entry.Entry.TheVariants.{Put, Federated}
+use Rattle.links.specs.declared.entry.Exchange.{Exchange}
+use Rattle.links.specs.Forms.{are_words}
 
--- its moment is one
+-- its moment is one, and it has 1 to 16 scope words
+pub record IsExchange (x : Exchange) : Type 0 where
+  pub moment : x.at ≤ 200_000_000_000
+  pub words : are_words x.scope ≡ true
+
 abbrev pub IsEntry : Entry → Type 0
-IsEntry (Federated provider token scope at) = at ≤ 200_000_000_000
+IsEntry (Put command) = ⊤
+IsEntry (Federated x) = IsExchange x

@@ -1,4 +1,5 @@
 pub mod Active
+pub mod Authority
 pub mod Chain
 pub mod Configuration
 pub mod Entries

@@ -1,5 +1,5 @@
 -- The state that a journal's entries leave.
-use Rattle.std.specs.Prelude.{◌≡◌, ℕ, List, [], ◌∷◌, ◌++◌, length, Option, None, Some, option_map, nat_lt, Bool, Result, Ok, Err, if◌then◌else◌}
+use Rattle.std.specs.Prelude.{◌≡◌, ℕ, List, [], ◌∷◌, ◌++◌, length, Option, None, Some, option_map, nat_lt, Bool, not, ◌&&◌, Result, Ok, Err, if◌then◌else◌}
 use Rattle.std.specs.Result.{result_ok}
 use Rattle.std.specs.Str.{bytes_eq}
 use Rattle.hmac_jws.specs.Compact.{compact}
@@ -9,22 +9,30 @@ use Rattle.links.specs.declared.config.Config.{Config}
 use Rattle.links.specs.declared.config.StartProvider.{StartProvider}
 use Rattle.links.specs.declared.entry.Entry.{Entry}
 use Rattle.links.specs.declared.entry.Entry.TheVariants as entry
+use Rattle.links.specs.declared.entry.Exchange.{Exchange}
 use Rattle.links.specs.declared.fault.RuleCode.{RuleCode}
-use Rattle.links.specs.declared.fault.RuleCode.TheVariants.{E14}
+use Rattle.links.specs.declared.fault.RuleCode.TheVariants.{E14, E15}
 use Rattle.links.specs.declared.link.Link.{Link}
 use Rattle.links.specs.declared.link.LinkKind.TheVariants as kind
 use Rattle.links.specs.declared.link.Source.{Source}
 use Rattle.links.specs.Chain.{Chain, chains_of, chain_at, next_chain}
 use Rattle.links.specs.Facts.{facts_of, exp_of}
 use Rattle.links.specs.Payload.{payload_text}
-use Rattle.links.specs.Sources.{◌>>=◌, source_of, provider_name}
+use Rattle.links.specs.Sources.{◌>>=◌, passed, source_of, provider_name}
+use Rattle.json_text.specs.Rules.{fails_if}
+use Rattle.iam_names.specs.declared.pool_name.PoolName.{PoolName}
+use Rattle.service_view.specs.declared.command.Command.{Command}
+use Rattle.service_view.specs.declared.ready_command.Ready.{Ready}
+use Rattle.service_view.specs.Puts.{command_of, made_ready}
+use Rattle.service_view.specs.View.{View, start_view, view_after, pool_enabled}
 
--- The issuer and the key of the tokens that are issued, the provider that is there from the start, the entries, and the
--- links that they recorded.
+-- The issuer and the key of the tokens that are issued, the provider that is there from the start, what stands under the
+-- names that commands put, the entries, and the links that they recorded.
 pub record Content : Type 0 where
   pub issuer : List ℕ
   pub key : List ℕ
   pub start : Option StartProvider
+  pub view : View
   pub entries : List Entry
   pub links : List Link
 
@@ -33,9 +41,15 @@ pub record Kept : Type 0 where
   pub content : Content
   pub spare : ℕ
 
--- the state before the first entry
+abbrev pub pool_of : Option StartProvider → Option PoolName
+pool_of start = option_map (λ provider. provider.pool) start
+
+-- the state before the first entry: the provider's pool is there, switched on, and the scope word for all permissions
+abbrev pub state_from : List ℕ → List ℕ → Option StartProvider → Content
+state_from issuer key start = record { issuer = issuer; key = key; start = start; view = start_view (pool_of start); entries = []; links = [] }
+
 abbrev pub start_of : Config → Content
-start_of config = record { issuer = config.issuer; key = config.key; start = config.start; entries = []; links = [] }
+start_of config = state_from config.issuer config.key config.start
 
 -- the provider of that name
 abbrev pub named : Option StartProvider → Audience → Result StartProvider RuleCode
@@ -44,22 +58,40 @@ named (Some provider) name = if bytes_eq (audience_text (provider_name provider)
 
 -- what the outside token gives, or the first rule that it fails
 abbrev pub source_at : Content → Audience → List ℕ → ℕ → Result Source RuleCode
-source_at c provider token at = named c.start provider >>= (λ p. source_of p token at)
+source_at c provider token at = named c.start provider >>= (λ p. passed (fails_if (not (pool_enabled c.view p.pool)) E15) (source_of p token at))
 
 abbrev pub federated_link : List (List ℕ) → ℕ → Source → Link
 federated_link words at source = record { at = at; words = words; kind = kind.Federated source }
 
 -- the link that an entry records
 abbrev pub link_of : Content → Entry → Option Link
-link_of c (entry.Federated provider token scope at) = option_map (federated_link scope at) (result_ok (source_at c provider token at))
+link_of c (entry.Put command) = None
+link_of c (entry.Federated x) = option_map (federated_link x.scope x.at) (result_ok (source_at c x.provider x.token x.at))
 
 abbrev pub with_link : List Link → Option Link → List Link
 with_link links None = links
 with_link links (Some link) = links ++ link ∷ []
 
+-- the command that an entry places
+abbrev pub ready_of : Entry → Option Ready
+ready_of (entry.Put command) = Some (made_ready command)
+ready_of (entry.Federated x) = None
+
+-- what stands under the names behind a command
+abbrev pub placed : View → Option Ready → View
+placed view None = view
+placed view (Some ready) = view_after view (command_of ready)
+
 -- the state after an entry
 abbrev pub after : Content → Entry → Content
-after c e = record { issuer = c.issuer; key = c.key; start = c.start; entries = c.entries ++ e ∷ []; links = with_link c.links (link_of c e) }
+after c e = record {
+  issuer = c.issuer;
+  key = c.key;
+  start = c.start;
+  view = placed c.view (ready_of e);
+  entries = c.entries ++ e ∷ [];
+  links = with_link c.links (link_of c e);
+}
 
 -- the state after these entries
 abbrev pub state_after : Content → List Entry → Content
@@ -68,7 +100,7 @@ state_after c (e ∷ es) = state_after (after c e) es
 
 -- the state before the first entry, with the same issuer, key and provider
 abbrev pub origin : Content → Content
-origin c = record { issuer = c.issuer; key = c.key; start = c.start; entries = []; links = [] }
+origin c = state_from c.issuer c.key c.start
 
 -- the state is the one that its entries leave
 abbrev pub IsReplayed : Content → Type 0
@@ -89,7 +121,3 @@ made c e = made_by c (link_of c e)
 -- the text of a link's token
 unfoldable pub token_text : Content → Chain → List ℕ
 token_text c chain = compact c.key (payload_text c.issuer (facts_of chain))
-
--- a link is live at a moment
-abbrev pub live : Content → Chain → ℕ → Bool
-live c chain at = nat_lt at (exp_of chain)

@@ -1,15 +1,21 @@
 use base_types::{Items, Text};
 use iam_names::{Audience, ScopeWord};
+use service_view::Command;
+
+/// An outside token that became an access token.
+#[derive(Debug, Drop)]
+pub struct Exchange {
+    pub provider: Audience,
+    pub token: Text,
+    pub scope: Items<ScopeWord>,
+    /// Seconds since 1970-01-01T00:00:00Z.
+    pub at: u64,
+}
 
 /// What the journal records.
 #[derive(Debug, Drop)]
 pub enum Entry {
-    /// An outside token became an access token.
-    Federated {
-        provider: Audience,
-        token: Text,
-        scope: Items<ScopeWord>,
-        /// Seconds since 1970-01-01T00:00:00Z.
-        at: u64,
-    },
+    /// A command replaced what stood under its name.
+    Put(Command),
+    Federated(Exchange),
 }

@@ -25,6 +25,8 @@ pub enum RuleCode {
     E11,
     /// The provider is unknown.
     E14,
+    /// The provider's pool is switched off.
+    E15,
     /// The outside token isn't signed under the provider's key.
     E16(JwsFault),
     /// The outside token's payload has no claims.
@@ -35,6 +37,10 @@ pub enum RuleCode {
     E19(MapFault),
     /// The access token would have over 8,192 bytes.
     E25,
+    /// A binding's role is unknown.
+    A4,
+    /// A new name would pass its limit.
+    A6,
 }
 
 /// Why an entry wasn't applied.

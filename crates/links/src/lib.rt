@@ -2,6 +2,7 @@
 #![tactic(auto)]
 
 mod active;
+mod authority;
 mod config;
 #[cfg(test)]
 mod config_tests;
@@ -11,6 +12,7 @@ mod issued;
 mod key;
 mod laws;
 mod link;
+mod numbered;
 mod payload;
 mod prepared;
 mod read_config;
@@ -21,15 +23,17 @@ mod state;
 mod tests;
 
 pub use active::write_active;
+pub use authority::is_live;
 pub use config::{Config, ConfigError, StartProvider};
-pub use entry::Entry;
+pub use entry::{Entry, Exchange};
 pub use fault::{ApplyFault, MapFault, RuleCode};
 pub use issued::find_issued;
 pub use key::Key;
 pub use laws::{good_link_has_exact_facts, payload_says_its_facts, payload_tells_its_number};
 pub use link::{Link, LinkKind, Source};
+pub use numbered::{exp_of, live, payload_of, words_of};
 pub use payload::{put_text, words_text, write_payload};
 pub use prepared::Prepared;
 pub use read_config::read_service_config;
-pub use recording::{CLOUD_PLATFORM, all_permissions, commit, prepare};
+pub use recording::{all_permissions, apply, commit, prepare};
 pub use state::State;

@@ -1,16 +1,19 @@
-ghost use Rattle.std.specs.Prelude.{◌≡◌, ◌≤◌, ◌<◌, ◌-◌, ◌^◌, ◌∷◌, [], ℕ, IfOk, OnOk, IfSome, true, length, not, nat_lt};
+ghost use Rattle.std.specs.Prelude.{◌≡◌, ◌≤◌, ◌<◌, ◌-◌, ◌^◌, ◌∷◌, [], ℕ, IfOk, OnOk, OnErr, IfSome, None, Some, true, length, not, nat_lt};
 ghost use Rattle.std.specs.List.{list_all, AllByRecursion};
 ghost use Rattle.iam_names.specs.Forms.{is_scope_word};
+ghost use Rattle.service_view.specs.Puts.{put_fault};
+ghost use Rattle.service_view.specs.View.{cloud_platform as word_from_start, pool_enabled};
 ghost use Rattle.links.specs.Exact.{IsGoodLink, IsGoodSource};
-ghost use Rattle.links.specs.Entries.{IsEntry};
+ghost use Rattle.links.specs.Entries.{IsEntry, IsExchange};
+ghost use Rattle.links.specs.declared.entry.Entry.TheVariants as entries;
 ghost use Rattle.hmac_jws.specs.Compact.{compact};
 ghost use Rattle.std.specs.Str.{bytes_eq};
 ghost use Rattle.json_text.specs.Rules.{fails_if};
 ghost use Rattle.iam_names.specs.Audience.{audience_text};
-ghost use Rattle.links.specs.declared.fault.RuleCode.TheVariants.{E11};
-ghost use Rattle.links.specs.Made.{made_of, next_payload, sized as sized_token};
+ghost use Rattle.links.specs.declared.fault.RuleCode.TheVariants.{E11, E15};
+ghost use Rattle.links.specs.Made.{made_of, next_payload, readied, sized as sized_token};
 ghost use Rattle.links.specs.Facts.{facts_of, exp_of};
-ghost use Rattle.links.specs.Licence.{Prepares, prepared_of, licensed_link, knows_word, cloud_platform};
+ghost use Rattle.links.specs.Licence.{Prepares, Applies, prepared_of, licensed_link, knows_word};
 ghost use Rattle.links.specs.Payload.{link_chain, payload_text};
 ghost use Rattle.links.specs.Reads.{Gives, Passes};
 ghost use Rattle.links.specs.Sources.{provider_name};
@@ -18,27 +21,24 @@ ghost use Rattle.links.specs.State.{source_at, named, after, token_text};
 
 use crate::payload::write_payload;
 use crate::source::{name_of, read_source};
-use crate::{ApplyFault, Entry, Link, LinkKind, Prepared, RuleCode, Source, StartProvider, State};
+use crate::{
+    ApplyFault, Entry, Exchange, Link, LinkKind, Prepared, RuleCode, Source, StartProvider, State,
+};
+use allow_policy::{PutFault, knows_scope};
 use base_types::{Items, Text};
 use hmac_jws::sign;
-use iam_names::{Audience, NameError, ScopeWord};
+use iam_names::{Audience, ScopeWord};
+use service_view::{Command, Ready, cloud_platform};
 use std::alloc::{AllocError, Global};
-
-/// The scope word that is there from the start, for all permissions.
-pub const CLOUD_PLATFORM: &str = "https://www.googleapis.com/auth/cloud-platform";
 
 const TOKEN_LIMIT: usize = 8192;
 
 /// The scope of an exchange that names none.
 pub fn all_permissions(alloc: Global) -> Result<Items<ScopeWord>, AllocError>
-    ensures { IfOk result (λ words. words ≡ cloud_platform ∷ []) }
+    ensures { IfOk result (λ words. words ≡ word_from_start ∷ []) }
 {
     let mut words = Items::new(alloc);
-    match ScopeWord::read(alloc, CLOUD_PLATFORM) {
-        Ok(word) => words.push(word)?,
-        // The word has its form.
-        Err(NameError::Form | NameError::Memory) => return Err(AllocError),
-    }
+    words.push(cloud_platform(alloc)?)?;
     Ok(words)
 }
 
@@ -51,10 +51,70 @@ pub fn prepare(alloc: Global, state: &mut State, entry: Entry) -> Result<Prepare
     ensures content { state.new.content ≡ state.old.content }
     ensures room { OnOk result (1 ≤ state.new.spare) }
 {
-    match make(alloc, state, &entry) {
+    match entry {
+        Entry::Put(command) => prepare_put(alloc, state, command),
+        Entry::Federated(exchange) => prepare_exchange(alloc, state, exchange),
+    }
+}
+
+// The command is copied: the entry keeps one, and the other is placed.
+fn prepare_put(alloc: Global, state: &mut State, command: Command) -> Result<Prepared, ApplyFault>
+    ensures prepared { Prepares state.old.content (entries.Put command) result }
+    ensures good { IfOk result (λ prepared. IfSome prepared.link IsGoodLink) }
+    ensures content { state.new.content ≡ state.old.content }
+    ensures room { OnOk result (1 ≤ state.new.spare) }
+{
+    let copy = command.copy(alloc)?;
+    match ready_for(state, copy) {
+        Ok(ready) => {
+            state.make_room()?;
+            Ok(put_prepared(command, ready))
+        }
+        Err(fault) => Err(fault),
+    }
+}
+
+fn put_prepared(command: Command, ready: Ready) -> Prepared
+    ensures { result ≡ record { entry = entries.Put command; ready = Some ready; link = None; payload = None; token = None; exp = None } }
+{
+    Prepared {
+        entry: Entry::Put(command),
+        ready: Some(ready),
+        link: None,
+        payload: None,
+        token: None,
+        exp: None,
+    }
+}
+
+fn ready_for(state: &mut State, command: Command) -> Result<Ready, ApplyFault>
+    ensures gives { Gives (λ ready. ready) result (readied (put_fault state.old.content.view command) command) }
+    ensures content { state.new.content ≡ state.old.content }
+{
+    match state.ready(command) {
+        Ok(ready) => Ok(ready),
+        Err(PutFault::UnknownRole) => Err(ApplyFault::Unlicensed { rule: RuleCode::A4 }),
+        Err(PutFault::Limit) => Err(ApplyFault::Unlicensed { rule: RuleCode::A6 }),
+        Err(PutFault::Memory) => Err(ApplyFault::Memory),
+    }
+}
+
+fn prepare_exchange(
+    alloc: Global,
+    state: &mut State,
+    exchange: Exchange,
+) -> Result<Prepared, ApplyFault>
+    requires room { length state.old.content.entries < 2 ^ 32 - 1 }
+    requires form { IsExchange exchange }
+    ensures prepared { Prepares state.old.content (entries.Federated exchange) result }
+    ensures good { IfOk result (λ prepared. IfSome prepared.link IsGoodLink) }
+    ensures content { state.new.content ≡ state.old.content }
+    ensures room { OnOk result (1 ≤ state.new.spare) }
+{
+    match make(alloc, state, &exchange) {
         Ok(made) => {
             state.make_room()?;
-            Ok(prepared(entry, made))
+            Ok(prepared(Entry::Federated(exchange), made))
         }
         Err(fault) => Err(fault),
     }
@@ -70,10 +130,11 @@ pub(crate) struct Made {
 }
 
 fn prepared(entry: Entry, made: Made) -> Prepared
-    ensures { result ≡ record { entry = entry; link = Some made.link; payload = Some made.payload; token = Some made.token; exp = Some made.exp } }
+    ensures { result ≡ record { entry = entry; ready = None; link = Some made.link; payload = Some made.payload; token = Some made.token; exp = Some made.exp } }
 {
     Prepared {
         entry,
+        ready: None,
         link: Some(made.link),
         payload: Some(made.payload),
         token: Some(made.token),
@@ -82,13 +143,13 @@ fn prepared(entry: Entry, made: Made) -> Prepared
 }
 
 #[tactic(auto, unfolding(crate::specs::Made::made_of))]
-fn make(alloc: Global, state: &State, entry: &Entry) -> Result<Made, ApplyFault>
+fn make(alloc: Global, state: &State, exchange: &Exchange) -> Result<Made, ApplyFault>
     requires room { length state.now.content.entries < 2 ^ 32 - 1 }
-    requires form { IsEntry entry.now }
-    ensures gives { Gives (λ made. made) result (made_of state.now.content entry.now) }
+    requires form { IsExchange exchange.now }
+    ensures gives { Gives (λ made. made) result (made_of state.now.content exchange.now) }
     ensures good { IfOk result (λ made. IsGoodLink made.link) }
 {
-    let link = link_for(alloc, state, entry)?;
+    let link = link_for(alloc, state, exchange)?;
     let payload = payload_of(alloc, state, &link)?;
     let token = token_of(alloc, state, &payload)?;
     let token = sized(token)?;
@@ -115,7 +176,20 @@ pub fn commit(state: &mut State, prepared: Prepared)
     requires room { 1 ≤ state.old.spare }
     ensures { state.new.content ≡ after state.old.content prepared.entry }
 {
-    state.push(prepared.entry, prepared.link);
+    state.push(prepared.entry, prepared.ready, prepared.link);
+}
+
+/// Records an entry, where the state licenses it: `prepare`, then `commit`.
+pub fn apply(alloc: Global, state: &mut State, entry: Entry) -> Result<(), ApplyFault>
+    requires room { length state.old.content.entries < 2 ^ 32 - 1 }
+    requires form { IsEntry entry }
+    ensures applied { Applies state.old.content entry result }
+    ensures done { OnOk result (state.new.content ≡ after state.old.content entry) }
+    ensures refused { OnErr result (state.new.content ≡ state.old.content) }
+{
+    let prepared = prepare(alloc, state, entry)?;
+    commit(state, prepared);
+    Ok(())
 }
 
 // The number of the next link.
@@ -127,36 +201,33 @@ fn next_number(state: &State) -> u32
     state.links().len() as u32
 }
 
-// The link that an entry would record.
+// The link that an exchange would record.
 #[tactic(auto, unfolding(crate::specs::Licence::licensed_link))]
-fn link_for(alloc: Global, state: &State, entry: &Entry) -> Result<Link, ApplyFault>
-    requires { IsEntry entry.now }
-    ensures gives { Gives (λ link. link) result (licensed_link state.now.content entry.now) }
+fn link_for(alloc: Global, state: &State, exchange: &Exchange) -> Result<Link, ApplyFault>
+    requires { IsExchange exchange.now }
+    ensures gives { Gives (λ link. link) result (licensed_link state.now.content exchange.now) }
     ensures good { IfOk result IsGoodLink }
 {
-    match entry {
-        Entry::Federated {
-            provider,
-            token,
-            scope,
-            at,
-        } => {
-            check_words(scope.as_slice())?;
-            let source = source_in(alloc, state, provider, token.as_str(), *at)?;
-            let words = copy_words(alloc, scope.as_slice())?;
-            Ok(Link {
-                at: *at,
-                words,
-                kind: LinkKind::Federated(source),
-            })
-        }
-    }
+    check_words(state, exchange.scope.as_slice())?;
+    let source = source_in(
+        alloc,
+        state,
+        &exchange.provider,
+        exchange.token.as_str(),
+        exchange.at,
+    )?;
+    let words = copy_words(alloc, exchange.scope.as_slice())?;
+    Ok(Link {
+        at: exchange.at,
+        words,
+        kind: LinkKind::Federated(source),
+    })
 }
 
-fn check_words(words: &[ScopeWord]) -> Result<(), ApplyFault>
-    ensures { Passes result (fails_if (not (list_all knows_word words.now)) E11) }
+fn check_words(state: &State, words: &[ScopeWord]) -> Result<(), ApplyFault>
+    ensures { Passes result (fails_if (not (list_all (knows_word state.now.content) words.now)) E11) }
 {
-    if knows_words(words) {
+    if knows_words(state, words) {
         return Ok(());
     }
     Err(ApplyFault::Unlicensed {
@@ -164,16 +235,13 @@ fn check_words(words: &[ScopeWord]) -> Result<(), ApplyFault>
     })
 }
 
-fn knows_words(words: &[ScopeWord]) -> bool
-    ensures { result ≡ list_all knows_word words.now }
+fn knows_words(state: &State, words: &[ScopeWord]) -> bool
+    ensures { result ≡ list_all (knows_word state.now.content) words.now }
 {
-    words.iter().all(|word| is_known(word))
-}
-
-fn is_known(word: &ScopeWord) -> bool
-    ensures { result ≡ knows_word word.now }
-{
-    word.as_str() == CLOUD_PLATFORM
+    let policies = &state.view().policies;
+    words
+        .iter()
+        .all(|word| knows_scope(policies, word.as_str()))
 }
 
 fn copy_words(alloc: Global, words: &[ScopeWord]) -> Result<Items<ScopeWord>, AllocError>
@@ -198,7 +266,19 @@ fn source_in(
     ensures good { IfOk result IsGoodSource }
 {
     let provider = provider_named(alloc, state, provider)?;
+    check_pool(state, provider)?;
     read_source(alloc, provider, token, at)
+}
+
+fn check_pool(state: &State, provider: &StartProvider) -> Result<(), ApplyFault>
+    ensures { Passes result (fails_if (not (pool_enabled state.now.content.view provider.now.pool)) E15) }
+{
+    if state.view().is_pool_enabled(&provider.pool) {
+        return Ok(());
+    }
+    Err(ApplyFault::Unlicensed {
+        rule: RuleCode::E15,
+    })
 }
 
 fn provider_named<'a>(

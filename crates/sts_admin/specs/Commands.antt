@@ -6,7 +6,7 @@ use Rattle.json_text.specs.Document.{text_at}
 use Rattle.iam_names.specs.Forms.{is_project, is_id, is_account, is_role, is_scope_word, is_resource}
 use Rattle.sts_admin.specs.Bindings.{bindings_at}
 use Rattle.sts_admin.specs.Members.{name_at, disabled_at, permissions_at, scope_set_at}
-use Rattle.sts_admin.specs.declared.command.Command.{Command}
+use Rattle.service_view.specs.declared.command.Command.{Command}
 use Rattle.sts_admin.specs.declared.command.CommandFault.{CommandFault}
 use Rattle.sts_admin.specs.declared.command.CommandMember.{CommandMember}
 use Rattle.sts_admin.specs.declared.command.CommandFault.TheVariants.{Kind, Field, Memory}

@@ -1,37 +1,4 @@
-use allow_policy::{Binding, ScopeSet};
-use base_types::Items;
-use iam_names::{Account, Permission, PoolName, Resource, Role, ScopeWord};
 use std::alloc::AllocError;
-
-/// What an administrator asks to put, in place of what stands under the name.
-#[derive(Debug, Drop)]
-pub enum Command {
-    /// A pool, and whether it is switched off.
-    Pool {
-        pool: PoolName,
-        disabled: bool,
-    },
-    /// A service account, and whether it is switched off.
-    Account {
-        account: Account,
-        disabled: bool,
-    },
-    /// A role with its permissions.
-    Role {
-        role: Role,
-        permissions: Items<Permission>,
-    },
-    /// A scope word and what it stands for.
-    Scope {
-        word: ScopeWord,
-        permissions: ScopeSet,
-    },
-    /// The allow policy of a resource.
-    Policy {
-        resource: Resource,
-        bindings: Items<Binding>,
-    },
-}
 
 /// A member of a command's object.
 #[derive(Clone, Copy, Debug, PartialEq, Eq)]

@@ -8,5 +8,5 @@ mod reading;
 #[cfg(test)]
 mod tests;
 
-pub use command::{Command, CommandFault, CommandMember};
+pub use command::{CommandFault, CommandMember};
 pub use reading::read_command;

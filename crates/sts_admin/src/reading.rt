@@ -2,17 +2,18 @@ ghost use Rattle.std.specs.Prelude.{◌≡◌, ◌≢◌, ◌⊎◌, Ok, Err, If
 ghost use Rattle.serde_json.specs.View.{view};
 ghost use Rattle.sts_admin.specs.Commands as commands;
 ghost use Rattle.sts_admin.specs.Commands.{command_of, Gives};
-ghost use Rattle.sts_admin.specs.declared.command.Command.{Command};
+ghost use Rattle.service_view.specs.declared.command.Command.{Command};
 ghost use Rattle.sts_admin.specs.declared.command.CommandFault.{CommandFault};
 
 use crate::bindings::bindings_at;
-use crate::command::{Command, CommandFault, CommandMember};
+use crate::command::{CommandFault, CommandMember};
 use crate::members::{disabled_at, name_at, permissions_at, scope_set_at};
 use iam_names::{
     AccountForm, PoolIdForm, PoolName, ProjectForm, ResourceForm, RoleForm, ScopeWordForm,
 };
 use json_text::text_at;
 use serde_json::Value;
+use service_view::Command;
 use std::alloc::Global;
 
 #[tactic(auto, unfolding(crate::specs::Commands::pool_command))]

@@ -1,6 +1,7 @@
-use crate::{Command, CommandFault, read_command};
+use crate::{CommandFault, read_command};
 use allow_policy::ScopeSet;
 use json_text::read_document;
+use service_view::Command;
 use std::alloc::Global;
 use std::test::Fail;
 

@@ -6,7 +6,7 @@ use Rattle.iam_names.specs.Audience.{audience_text}
 use Rattle.links.specs.declared.config.StartProvider.{StartProvider}
 use Rattle.links.specs.declared.entry.Entry.{Entry}
 use Rattle.links.specs.declared.entry.Entry.TheVariants.{Federated}
-use Rattle.links.specs.Licence.{cloud_platform}
+use Rattle.service_view.specs.View.{cloud_platform}
 use Rattle.links.specs.Sources.{provider_name}
 use Rattle.sts_core.specs.Forms.{is_all_text, is_absent, once}
 use Rattle.sts_core.specs.declared.form.Parameter.{Parameter}
@@ -39,7 +39,7 @@ abbrev pub asks_for : StartProvider → List Parameter → Bool
 asks_for provider form = is_plain_exchange form && is_once (codes "audience") (audience_text (provider_name provider)) form
 
 abbrev pub entry_of : StartProvider → ℕ → List ℕ → Entry
-entry_of provider at token = Federated (provider_name provider) token (cloud_platform ∷ []) at
+entry_of provider at token = Federated (record { provider = provider_name provider; token = token; scope = cloud_platform ∷ []; at = at })
 
 -- the entry that such an exchange would record
 unfoldable pub asked_entry : Option StartProvider → List Parameter → ℕ → Option Entry

@@ -5,3 +5,4 @@ pub mod Refusals
 pub mod Replies
 pub mod Runs
 pub mod State
+pub mod Unbuilt

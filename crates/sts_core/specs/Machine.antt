@@ -1,5 +1,5 @@
 -- The machine: what the service replies to a request, and which entry it adds to its journal.
-use Rattle.std.specs.Prelude.{ℕ, List, [], ◌∷◌, ◌++◌, Bool, false, not, Option, None, Some, option_and_then, codes, if◌then◌else◌}
+use Rattle.std.specs.Prelude.{ℕ, List, [], ◌∷◌, ◌++◌, length, Bool, false, not, Option, None, Some, option_and_then, is_some, codes, Result, Ok, Err, if◌then◌else◌}
 use Rattle.std.specs.Str.{bytes_eq}
 use Rattle.json_text.specs.Rules.{fails_if, first_failing}
 use Rattle.wif_base.specs.declared.route.Route.{Route}
@@ -8,17 +8,27 @@ use Rattle.wif_base.specs.declared.request.Request.{Request}
 use Rattle.wif_base.specs.declared.request.Reply.{Reply}
 use Rattle.links.specs.declared.config.Config.{Config}
 use Rattle.links.specs.declared.entry.Entry.{Entry}
+use Rattle.links.specs.declared.entry.Entry.TheVariants.{Put}
+use Rattle.serde_json.specs.Data.{Data}
+use Rattle.serde_json.specs.Find.{as_object}
+use Rattle.json_text.specs.Document.{document}
+use Rattle.json_text.specs.Forms.{passing}
+use Rattle.service_view.specs.declared.command.Command.{Command}
+use Rattle.sts_admin.specs.declared.command.CommandFault.{CommandFault}
+use Rattle.sts_admin.specs.Commands.{command_of}
 use Rattle.links.specs.declared.fault.RuleCode.{RuleCode}
 use Rattle.links.specs.Active.{active_text}
 use Rattle.links.specs.Chain.{Chain}
 use Rattle.links.specs.Facts.{facts_of}
 use Rattle.links.specs.Issued.{issued_link}
 use Rattle.links.specs.Licence.{first_unlicensed, prepared_of}
-use Rattle.links.specs.State.{Content, chain, live, start_of, state_after}
+use Rattle.links.specs.Authority.{live}
+use Rattle.links.specs.State.{Content, chain, start_of, state_after}
 use Rattle.sts_core.specs.Asked.{asked_entry}
 use Rattle.sts_core.specs.Forms.{form_of, is_all_text, once}
-use Rattle.sts_core.specs.Refusals.{refusal_of}
-use Rattle.sts_core.specs.Replies.{u1, n2, not_built, inactive, issued}
+use Rattle.sts_core.specs.Refusals.{refusal_of, command_refusal}
+use Rattle.sts_core.specs.Replies.{u1, n2, a1, not_built, inactive, issued, entered}
+use Rattle.sts_core.specs.Unbuilt.{is_unbuilt}
 
 pub record Answer : Type 0 where
   pub reply : Reply
@@ -72,18 +82,44 @@ exchanged c (Some entry) = ruled c entry (first_unlicensed c entry)
 abbrev pub exchange : Content → Request → ℕ → Answer
 exchange c request at = exchanged c (asked_entry c.start (form_of request.body) at)
 
+-- ---- commands
+
+-- a rule forbids the command, or it is recorded
+abbrev pub commanded_by : Content → Command → Option RuleCode → Answer
+commanded_by c command (Some rule) = no_entry (refusal_of rule)
+commanded_by c command None = record { reply = entered (length c.entries); entry = Some (Put command) }
+
+abbrev pub commanded : Content → Result Command CommandFault → Answer
+commanded c (Err fault) = no_entry (command_refusal fault)
+commanded c (Ok command) = commanded_by c command (first_unlicensed c (Put command))
+
+abbrev pub is_object : Data → Bool
+is_object d = is_some (as_object d)
+
+-- the object that a body is
+abbrev pub object_of : List ℕ → Option Data
+object_of body = option_and_then (passing is_object) (document body)
+
+abbrev pub command_in : Content → Option Data → Answer
+command_in c None = no_entry a1
+command_in c (Some d) = if is_unbuilt d then no_entry not_built else commanded c (command_of d)
+
+-- the command is recorded, where the bearer is the secret and no rule forbids it
+unfoldable pub administration : List ℕ → Content → Request → Answer
+administration secret c request = if is_bearer secret request.bearer then command_in c (object_of request.body) else no_entry u1
+
 -- ---- any request
 
 -- the machine's answer to a request of a route
-abbrev pub step_of : Route → List ℕ → Content → Request → ℕ → Answer
-step_of Token gate c request at = exchange c request at
-step_of (Generate account) gate c request at = no_entry not_built
-step_of Introspect gate c request at = no_entry (introspection gate c request at)
-step_of Check gate c request at = no_entry not_built
-step_of Admin gate c request at = no_entry not_built
+abbrev pub step_of : Route → Config → Content → Request → ℕ → Answer
+step_of Token config c request at = exchange c request at
+step_of (Generate account) config c request at = no_entry not_built
+step_of Introspect config c request at = no_entry (introspection config.gate c request at)
+step_of Check config c request at = no_entry not_built
+step_of Admin config c request at = administration config.admin c request
 
 abbrev pub step : Config → List Entry → Request → ℕ → Answer
-step config journal request at = step_of request.route config.gate (content_of config journal) request at
+step config journal request at = step_of request.route config (content_of config journal) request at
 
 -- the journal with the entry, if there is one
 abbrev pub with_entry : List Entry → Option Entry → List Entry

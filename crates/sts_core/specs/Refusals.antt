@@ -9,7 +9,10 @@ use Rattle.wif_claims.specs.declared.claims.ClaimFault.TheVariants as claim
 use Rattle.links.specs.declared.fault.MapFault.{MapFault}
 use Rattle.links.specs.declared.fault.MapFault.TheVariants as map
 use Rattle.links.specs.declared.fault.RuleCode.{RuleCode}
-use Rattle.links.specs.declared.fault.RuleCode.TheVariants.{E11, E14, E16, E17, E18, E19, E25}
+use Rattle.links.specs.declared.fault.RuleCode.TheVariants.{E11, E14, E15, E16, E17, E18, E19, E25, A4, A6}
+use Rattle.sts_admin.specs.Names.{member_name}
+use Rattle.sts_admin.specs.declared.command.CommandFault.{CommandFault}
+use Rattle.sts_admin.specs.declared.command.CommandFault.TheVariants.{Kind, Field, Memory}
 use Rattle.sts_core.specs.Replies.{refusal}
 
 abbrev pub jws_text : JwsFault → List ℕ
@@ -44,17 +47,33 @@ map_text (map.TooLong key) = codes "TooLong " ++ key
 abbrev pub rule_text : RuleCode → List ℕ
 rule_text E11 = codes "E11"
 rule_text E14 = codes "E14"
+rule_text E15 = codes "E15"
 rule_text (E16 fault) = codes "E16 " ++ jws_text fault
 rule_text (E17 fault) = codes "E17 " ++ claim_text fault
 rule_text (E18 fault) = codes "E18 " ++ map_text fault
 rule_text (E19 fault) = codes "E19 " ++ map_text fault
 rule_text E25 = codes "E25"
+rule_text A4 = codes "A4"
+rule_text A6 = codes "A6"
 
 -- the error's word (RFC 6749, section 5.2; RFC 8693, section 2.2.2)
 abbrev pub word_of : RuleCode → List ℕ
 word_of E11 = codes "invalid_scope"
 word_of E14 = codes "invalid_target"
+word_of E15 = codes "invalid_target"
+word_of A4 = codes "invalid_argument"
+word_of A6 = codes "invalid_argument"
 word_of _ = codes "invalid_request"
 
 abbrev pub refusal_of : RuleCode → Reply
 refusal_of rule = refusal 400 (word_of rule) (rule_text rule)
+
+-- ---- commands that have no form
+
+-- the code of the fault, and the member behind a space
+abbrev pub fault_text : CommandFault → List ℕ
+fault_text (Field member) = codes "A3 " ++ member_name member
+fault_text fault = codes "A2"
+
+abbrev pub command_refusal : CommandFault → Reply
+command_refusal fault = refusal 400 (codes "invalid_argument") (fault_text fault)

@@ -1,9 +1,10 @@
 -- The replies of the service.
 use Rattle.std.specs.Prelude.{ℕ, ◌-◌, List, [], ◌++◌, codes, Option, unwrap_or}
+use Rattle.std.specs.Fmt.{decimal}
 use Rattle.serde_json.specs.Data.{Data, number, unsigned, string, object, member, no_members}
 use Rattle.serde_json.specs.Written.{compact_text}
 use Rattle.links.specs.declared.entry.Entry.{Entry}
-use Rattle.links.specs.declared.entry.Entry.TheVariants.{Federated}
+use Rattle.links.specs.declared.entry.Entry.TheVariants.{Put, Federated}
 use Rattle.links.specs.declared.prepared.Prepared.{Prepared}
 use Rattle.links.specs.Payload.{words_text}
 use Rattle.wif_base.specs.declared.request.Reply.{Reply}
@@ -22,6 +23,10 @@ u1 = refusal 401 (codes "invalid_token") (codes "U1")
 -- the token isn't there exactly once with a value
 abbrev pub n2 : Reply
 n2 = refusal 400 (codes "invalid_request") (codes "N2")
+
+-- the body is no JSON object
+abbrev pub a1 : Reply
+a1 = refusal 400 (codes "invalid_argument") (codes "A1")
 
 -- a request of a form that isn't built yet
 abbrev pub not_built : Reply
@@ -48,10 +53,12 @@ issued_data token seconds scope = object (
     member (codes "token_type") (string (codes "Bearer")) no_members)))))
 
 abbrev pub scope_of : Entry → List (List ℕ)
-scope_of (Federated provider token scope at) = scope
+scope_of (Put command) = []
+scope_of (Federated x) = x.scope
 
 abbrev pub moment_of : Entry → ℕ
-moment_of (Federated provider token scope at) = at
+moment_of (Put command) = 0
+moment_of (Federated x) = x.at
 
 -- An entry that is licensed has a token and an expiry.
 unfoldable pub issued : Prepared → Reply
@@ -59,3 +66,8 @@ issued prepared = record {
   status = 200;
   body = compact_text (issued_data (unwrap_or prepared.token []) (unwrap_or prepared.exp 0 - moment_of prepared.entry) (words_text (scope_of prepared.entry)));
 }
+
+-- ---- a command that is recorded: its entry's number, counted from 0
+
+abbrev pub entered : ℕ → Reply
+entered number = record { status = 200; body = codes "{\"entry\":" ++ (decimal number ++ codes "}") }

@@ -10,7 +10,9 @@ use crate::form::{Parameter, is_absent, is_all_text, once, read_form};
 use crate::refusal::refusal_of;
 use crate::reply::{issued, not_built};
 use base_types::Text;
-use links::{ApplyFault, Entry, StartProvider, State, all_permissions, commit, prepare};
+use links::{
+    ApplyFault, Entry, Exchange, StartProvider, State, all_permissions, commit, prepare,
+};
 use std::alloc::{AllocError, Global};
 use wif_base::{Reply, Request};
 
@@ -82,12 +84,12 @@ fn asked(
         return Ok(None);
     }
     match once(form, "subject_token") {
-        Some(token) => Ok(Some(Entry::Federated {
+        Some(token) => Ok(Some(Entry::Federated(Exchange {
             provider: provider.name(alloc)?,
             token: Text::copy_of(alloc, token)?,
             scope: all_permissions(alloc)?,
             at,
-        })),
+        }))),
         None => Ok(None),
     }
 }

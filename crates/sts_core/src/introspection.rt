@@ -5,7 +5,7 @@ ghost use Rattle.sts_core.specs.Machine.{introspection, is_bearer as bearer_is, 
 use crate::form::{is_all_text, once, read_form};
 use crate::reply::{inactive, json_reply, no_bearer, no_token, not_built};
 use base_types::Text;
-use links::{Link, State, find_issued, write_active};
+use links::{Link, State, find_issued, is_live, write_active};
 use std::alloc::{AllocError, Global};
 use wif_base::{Reply, Request};
 
@@ -34,7 +34,8 @@ pub(crate) fn introspect(
     }
 }
 
-fn is_bearer(secret: &Text, bearer: &Option<Text>) -> bool
+/// Whether the bearer is the secret.
+pub(crate) fn is_bearer(secret: &Text, bearer: &Option<Text>) -> bool
     ensures { result ≡ bearer_is secret.now bearer.now }
 {
     match bearer {
@@ -66,7 +67,7 @@ fn tell_link(
 ) -> Result<Reply, AllocError>
     ensures { IfOk result (λ reply. reply ≡ told state.now.content at (Some (link_chain number link.now))) }
 {
-    if at >= link.exp() {
+    if !is_live(state, link, at) {
         return inactive(alloc);
     }
     json_reply(write_active(alloc, state.issuer(), number, link)?)

@@ -1,6 +1,7 @@
 //! The service: its state, and its answer to a request.
 #![tactic(auto)]
 
+mod administration;
 mod exchange;
 mod form;
 mod introspection;
@@ -9,6 +10,7 @@ mod reply;
 mod sts;
 #[cfg(test)]
 mod tests;
+mod unbuilt;
 
 pub use form::Parameter;
 pub use reply::not_found;

@@ -1,11 +1,12 @@
 ghost use Rattle.std.specs.Prelude.{◌≡◌, ◌++◌, IfOk};
-ghost use Rattle.sts_core.specs.Refusals.{jws_text, claim_text, map_text, rule_text, word_of, refusal_of as refusal};
+ghost use Rattle.sts_core.specs.Refusals.{jws_text, claim_text, map_text, rule_text, word_of, refusal_of as refusal, fault_text as command_text, command_refusal};
 
 use crate::reply::refused;
 use base_types::Text;
 use hmac_jws::JwsFault;
 use links::{MapFault, RuleCode};
 use std::alloc::{AllocError, Global};
+use sts_admin::CommandFault;
 use wif_base::Reply;
 use wif_claims::ClaimFault;
 
@@ -22,7 +23,8 @@ fn word(rule: &RuleCode) -> &'static str
 {
     match rule {
         RuleCode::E11 => "invalid_scope",
-        RuleCode::E14 => "invalid_target",
+        RuleCode::E14 | RuleCode::E15 => "invalid_target",
+        RuleCode::A4 | RuleCode::A6 => "invalid_argument",
         _ => "invalid_request",
     }
 }
@@ -33,11 +35,31 @@ fn text_of(alloc: Global, rule: &RuleCode) -> Result<Text, AllocError>
     match rule {
         RuleCode::E11 => Text::copy_of(alloc, "E11"),
         RuleCode::E14 => Text::copy_of(alloc, "E14"),
+        RuleCode::E15 => Text::copy_of(alloc, "E15"),
         RuleCode::E16(fault) => coded(alloc, "E16 ", jws_fault(alloc, *fault)?),
         RuleCode::E17(fault) => coded(alloc, "E17 ", claim_fault(alloc, *fault)?),
         RuleCode::E18(fault) => coded(alloc, "E18 ", map_fault(alloc, fault)?),
         RuleCode::E19(fault) => coded(alloc, "E19 ", map_fault(alloc, fault)?),
         RuleCode::E25 => Text::copy_of(alloc, "E25"),
+        RuleCode::A4 => Text::copy_of(alloc, "A4"),
+        RuleCode::A6 => Text::copy_of(alloc, "A6"),
+    }
+}
+
+/// The reply to a command without a form.
+pub(crate) fn command_refused(alloc: Global, fault: CommandFault) -> Result<Reply, AllocError>
+    ensures { IfOk result (λ reply. reply ≡ command_refusal fault) }
+{
+    let text = fault_text(alloc, fault)?;
+    refused(alloc, 400, "invalid_argument", text.as_str())
+}
+
+fn fault_text(alloc: Global, fault: CommandFault) -> Result<Text, AllocError>
+    ensures { IfOk result (λ text. text ≡ command_text fault) }
+{
+    match fault {
+        CommandFault::Field(member) => coded(alloc, "A3 ", Text::copy_of(alloc, member.name())?),
+        CommandFault::Kind | CommandFault::Memory => Text::copy_of(alloc, "A2"),
     }
 }
 

@@ -6,6 +6,7 @@ ghost use Rattle.links.specs.Payload.{words_text as joined};
 ghost use Rattle.sts_core.specs.Replies as replies;
 
 use base_types::{Bytes, Text};
+use iam_names::ScopeWord;
 use links::{Entry, Prepared, put_text, words_text};
 use serde_json::{Map, Value};
 use std::alloc::{AllocError, Global};
@@ -63,6 +64,16 @@ pub(crate) fn no_token(alloc: Global) -> Result<Reply, AllocError>
     )
 }
 
+pub(crate) fn no_object(alloc: Global) -> Result<Reply, AllocError>
+    ensures { IfOk result (λ reply. reply ≡ replies.a1) }
+{
+    reply_of(
+        alloc,
+        400,
+        b"{\"error\":\"invalid_argument\",\"error_description\":\"A1\"}",
+    )
+}
+
 pub(crate) fn inactive(alloc: Global) -> Result<Reply, AllocError>
     ensures { IfOk result (λ reply. reply ≡ replies.inactive) }
 {
@@ -105,14 +116,39 @@ pub(crate) fn json_reply(text: Text) -> Result<Reply, AllocError>
 pub(crate) fn issued(alloc: Global, prepared: &Prepared) -> Result<Reply, AllocError>
     ensures { IfOk result (λ reply. reply ≡ replies.issued prepared.now) }
 {
-    let Entry::Federated { scope, at, .. } = &prepared.entry;
     let token = match &prepared.token {
         Some(token) => token.as_str(),
         None => "",
     };
     let exp = prepared.exp.unwrap_or(0);
-    let scope = words_text(alloc, scope.as_slice())?;
-    json_reply(issued_text(alloc, token, exp.saturating_sub(*at), scope.as_str())?)
+    let scope = words_text(alloc, scope_of(&prepared.entry))?;
+    let seconds = exp.saturating_sub(moment_of(&prepared.entry));
+    json_reply(issued_text(alloc, token, seconds, scope.as_str())?)
+}
+
+fn scope_of(entry: &Entry) -> &[ScopeWord]
+    ensures { result.now ≡ replies.scope_of entry.now }
+{
+    match entry {
+        Entry::Put(_) => &[],
+        Entry::Federated(exchange) => exchange.scope.as_slice(),
+    }
+}
+
+fn moment_of(entry: &Entry) -> u64
+    ensures { result ≡ replies.moment_of entry.now }
+{
+    match entry {
+        Entry::Put(_) => 0,
+        Entry::Federated(exchange) => exchange.at,
+    }
+}
+
+/// The reply to a command that is recorded: its entry's number, from 0.
+pub(crate) fn entered(alloc: Global, number: usize) -> Result<Reply, AllocError>
+    ensures { IfOk result (λ reply. reply ≡ replies.entered number) }
+{
+    json_reply(Text::new(format!(in alloc; "{{\"entry\":{number}}}")?))
 }
 
 fn issued_text(alloc: Global, token: &str, seconds: u64, scope: &str) -> Result<Text, AllocError>

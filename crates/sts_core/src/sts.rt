@@ -1,6 +1,7 @@
 ghost use Rattle.std.specs.Prelude.{◌≡◌, ◌≤◌, IfOk, OnOk, OnErr, []};
-ghost use Rattle.sts_core.specs.Machine.{content_of, exchange as exchange_of, introspection, step, with_entry};
+ghost use Rattle.sts_core.specs.Machine.{content_of, exchange as exchange_of, administration, introspection, step, with_entry};
 
+use crate::administration::administer;
 use crate::exchange::exchange;
 use crate::introspection::introspect;
 use crate::reply::not_built;
@@ -46,20 +47,20 @@ impl<D: Disk> Sts<D> {
         ensures config { IfOk result (λ sts. configuration sts ≡ config.now) }
         ensures journal { IfOk result (λ sts. journal sts ≡ []) }
     {
-        Ok(Sts::start(alloc, disk, config.copy(alloc)?))
+        let config = config.copy(alloc)?;
+        let state = State::new(alloc, config.issuer, config.key, config.start)?;
+        Ok(Sts::start(disk, config.admin, config.gate, state))
     }
 
-    /// The same over a configuration that is handed in. It takes no memory.
-    pub fn start(alloc: Global, disk: D, config: Config) -> Self
-        ensures disk { result.disk ≡ disk }
-        ensures config { configuration result ≡ config }
-        ensures journal { journal result ≡ [] }
+    /// The service of a state, with the bearers of commands and of checks and introspections. It takes no memory.
+    pub fn start(disk: D, admin: Text, gate: Text, state: State) -> Self
+        ensures { result ≡ record { disk = disk; admin = admin; gate = gate; state = state } }
     {
         Sts {
             disk,
-            admin: config.admin,
-            gate: config.gate,
-            state: State::new(alloc, config.issuer, config.key, config.start),
+            admin,
+            gate,
+            state,
         }
     }
 
@@ -83,6 +84,7 @@ impl<D: Disk> Sts<D> {
         match &request.route {
             Route::Token => self.exchange(alloc, request, at),
             Route::Introspect => self.introspect(alloc, request, at),
+            Route::Admin => self.admin(alloc, request, at),
             _ => Ok(not_built(alloc)?),
         }
     }
@@ -102,6 +104,23 @@ impl<D: Disk> Sts<D> {
             return Err(Stop::Memory);
         }
         exchange(alloc, &mut self.state, request, at)
+    }
+
+    /// Answers a command of an administrator: what it puts stands in place of what stood under its name.
+    pub fn admin(&mut self, alloc: Global, request: &Request, at: u64) -> Result<Reply, Stop>
+        ensures reply { IfOk result (λ reply. reply ≡ (administration self.old.admin (content_of (configuration self.old) (journal self.old)) request.now).reply) }
+        ensures journal { OnOk result (journal self.new ≡ with_entry (journal self.old) (administration self.old.admin (content_of (configuration self.old) (journal self.old)) request.now).entry) }
+        ensures config { configuration self.new ≡ configuration self.old }
+        ensures disk { self.new.disk ≡ self.old.disk }
+        ensures refused { OnErr result (self.new.state.content ≡ self.old.state.content) }
+    {
+        let _ = at;
+        // Its contract says that the state is the one that its entries leave.
+        let _count = self.state.entry_count();
+        if self.state.is_full() {
+            return Err(Stop::Memory);
+        }
+        administer(alloc, &self.admin, &mut self.state, request)
     }
 
     /// Answers an introspection (RFC 7662).

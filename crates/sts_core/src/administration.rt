@@ -1,0 +1,101 @@
+ghost use Rattle.std.specs.Prelude.{◌≡◌, ◌<◌, ◌-◌, ◌^◌, IfOk, OnOk, OnErr, Ok, Some, length, option_map};
+ghost use Rattle.serde_json.specs.View.{view};
+ghost use Rattle.sts_admin.specs.Commands.{command_of};
+ghost use Rattle.sts_core.specs.Machine.{administration, command_in, commanded, object_of as body_object, with_entry};
+
+use crate::Stop;
+use crate::introspection::is_bearer;
+use crate::refusal::{command_refused, refusal_of};
+use crate::reply::{entered, no_bearer, no_object, not_built};
+use crate::unbuilt::is_unbuilt;
+use base_types::Text;
+use json_text::{DocumentFault, read_document};
+use links::{ApplyFault, Entry, State, commit, prepare};
+use serde_json::Value;
+use service_view::Command;
+use std::alloc::{AllocError, Global};
+use sts_admin::{CommandFault, read_command};
+use wif_base::{Reply, Request};
+
+/// Answers a command.
+#[tactic(auto, unfolding(crate::specs::Machine::administration))]
+pub(crate) fn administer(
+    alloc: Global,
+    secret: &Text,
+    state: &mut State,
+    request: &Request,
+) -> Result<Reply, Stop>
+    requires room { length state.old.content.entries < 2 ^ 32 - 1 }
+    ensures reply { IfOk result (λ reply. reply ≡ (administration secret.now state.old.content request.now).reply) }
+    ensures entry { OnOk result (state.new.content.entries ≡ with_entry state.old.content.entries (administration secret.now state.old.content request.now).entry) }
+    ensures issuer { state.new.content.issuer ≡ state.old.content.issuer }
+    ensures key { state.new.content.key ≡ state.old.content.key }
+    ensures start { state.new.content.start ≡ state.old.content.start }
+    ensures refused { OnErr result (state.new.content ≡ state.old.content) }
+{
+    if !is_bearer(secret, &request.bearer) {
+        return Ok(no_bearer(alloc)?);
+    }
+    match read_object(alloc, request.body.as_slice())? {
+        Some(json) => obey(alloc, state, &json),
+        None => Ok(no_object(alloc)?),
+    }
+}
+
+// The object that a body is.
+fn read_object(alloc: Global, body: &[u8]) -> Result<Option<Value>, AllocError>
+    ensures { IfOk result (λ found. option_map (λ json. view json) found ≡ body_object body.now) }
+{
+    match read_document(alloc, body) {
+        Ok(json) => {
+            if json.as_object().is_some() {
+                return Ok(Some(json));
+            }
+            Ok(None)
+        }
+        Err(DocumentFault::NoJson) => Ok(None),
+        Err(DocumentFault::Memory) => Err(AllocError),
+    }
+}
+
+// Reads a command and records it.
+fn obey(alloc: Global, state: &mut State, json: &Value) -> Result<Reply, Stop>
+    requires room { length state.old.content.entries < 2 ^ 32 - 1 }
+    ensures reply { IfOk result (λ reply. reply ≡ (command_in state.old.content (Some (view json.now))).reply) }
+    ensures entry { OnOk result (state.new.content.entries ≡ with_entry state.old.content.entries (command_in state.old.content (Some (view json.now))).entry) }
+    ensures issuer { state.new.content.issuer ≡ state.old.content.issuer }
+    ensures key { state.new.content.key ≡ state.old.content.key }
+    ensures start { state.new.content.start ≡ state.old.content.start }
+    ensures refused { OnErr result (state.new.content ≡ state.old.content) }
+{
+    if is_unbuilt(json) {
+        return Ok(not_built(alloc)?);
+    }
+    match read_command(alloc, json) {
+        Ok(command) => enter(alloc, state, command),
+        Err(CommandFault::Memory) => Err(Stop::Memory),
+        Err(fault) => Ok(command_refused(alloc, fault)?),
+    }
+}
+
+// Records a command, where no rule forbids it.
+fn enter(alloc: Global, state: &mut State, command: Command) -> Result<Reply, Stop>
+    requires room { length state.old.content.entries < 2 ^ 32 - 1 }
+    ensures reply { IfOk result (λ reply. reply ≡ (commanded state.old.content (Ok command)).reply) }
+    ensures entry { OnOk result (state.new.content.entries ≡ with_entry state.old.content.entries (commanded state.old.content (Ok command)).entry) }
+    ensures issuer { state.new.content.issuer ≡ state.old.content.issuer }
+    ensures key { state.new.content.key ≡ state.old.content.key }
+    ensures start { state.new.content.start ≡ state.old.content.start }
+    ensures refused { OnErr result (state.new.content ≡ state.old.content) }
+{
+    let number = state.entry_count();
+    match prepare(alloc, state, Entry::Put(command)) {
+        Ok(prepared) => {
+            let reply = entered(alloc, number)?;
+            commit(state, prepared);
+            Ok(reply)
+        }
+        Err(ApplyFault::Unlicensed { rule }) => Ok(refusal_of(alloc, &rule)?),
+        Err(ApplyFault::Memory) => Err(Stop::Memory),
+    }
+}
