@@ -70,4 +70,4 @@ issued prepared = record {
 -- ---- a command that is recorded: its entry's number, counted from 0
 
 abbrev pub entered : ℕ → Reply
-entered number = record { status = 200; body = codes "{\"entry\":" ++ (decimal number ++ codes "}") }
+entered n = record { status = 200; body = codes "{\"entry\":" ++ (decimal n ++ codes "}") }

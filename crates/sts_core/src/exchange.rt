@@ -10,9 +10,7 @@ use crate::form::{Parameter, is_absent, is_all_text, once, read_form};
 use crate::refusal::refusal_of;
 use crate::reply::{issued, not_built};
 use base_types::Text;
-use links::{
-    ApplyFault, Entry, Exchange, StartProvider, State, all_permissions, commit, prepare,
-};
+use links::{ApplyFault, Entry, Exchange, StartProvider, State, all_permissions, commit, prepare};
 use std::alloc::{AllocError, Global};
 use wif_base::{Reply, Request};
 
