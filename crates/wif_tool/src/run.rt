@@ -5,13 +5,14 @@ ghost use Rattle.wif_base.specs.Carried.{input_limit};
 ghost use Rattle.links.specs.declared.entry.Entry.{Entry};
 ghost use Rattle.sts_serve.specs.Frames.{ScriptSpells};
 ghost use Rattle.sts_serve.specs.declared.frame.Frame.{Frame};
+ghost use Rattle.links.specs.State.{start_of};
 ghost use Rattle.wif_tool.specs.Command.{command, texts};
+ghost use Rattle.wif_tool.specs.Setup.{config_of};
 ghost use Rattle.wif_tool.specs.Status.{Configured, NoConfiguration, NotConfigured, StopsBefore, ScriptOutcome, AllAnswered, AnsweredUpTo, LineDue, malformed_line, HasForms};
 
 use crate::Command;
 use crate::command::command_of;
-use crate::setup::{SetupEnd, read_setup};
-use links::Config;
+use crate::setup::{Setup, SetupEnd, read_setup};
 use std::alloc::Global;
 use sts_core::Sts;
 use sts_serve::{Served, run_script};
@@ -83,18 +84,19 @@ pub fn sts_run<G: Source, I: Source, O: Sink, D: Disk, C: Clock>(
 // The run over a script, and its closing line.
 fn run_over<I: Source, O: Sink, D: Disk>(
     alloc: Global,
-    setup: Config,
+    setup: Setup,
     input: &mut I,
     output: &mut O,
     disk: &mut D,
 ) -> u8
-    ensures outcome { (after : List Entry) × ScriptOutcome setup [] after (I.left input.old) (I.left input.new) (O.taken output.old) (O.taken output.new) result }
+    requires { setup.state.content ≡ start_of (config_of setup) }
+    ensures outcome { (after : List Entry) × ScriptOutcome (config_of setup) [] after (I.left input.old) (I.left input.new) (O.taken output.old) (O.taken output.new) result }
     ensures read_fault { result ≡ 3 → Rose (I.faults input.old) (I.faults input.new) }
     ensures write_fault { result ≡ 4 → Rose (O.faults output.old) (O.faults output.new) }
     ensures clock_fault { result ≢ 9 }
     ensures disk { disk.new ≡ disk.old }
 {
-    let mut sts = Sts::start(alloc, &mut *disk, setup);
+    let mut sts = Sts::start(&mut *disk, setup.admin, setup.gate, setup.state);
     let end = run_script(alloc, &mut sts, input, output);
     // A disk that is lent is known again only once it is given back.
     let _disk = sts.close();

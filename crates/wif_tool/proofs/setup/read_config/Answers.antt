@@ -4,7 +4,7 @@ use Rattle.wif_tool.specs.Status.{NotConfigured}
 use Rattle.links.specs.Configuration.{IsConfiguration}
 use Rattle.links.specs.declared.config.Config.{Config}
 use Rattle.links.specs.declared.config.ConfigError.{ConfigError}
-use Rattle.wif_tool.proofs.setup.read_setup.Goals as goal
+use Rattle.wif_tool.proofs.setup.read_config.Goals as goal
 
 pub returns-in-Err-Form-clause-form : goal.returns-in-Err-Form-clause-form
 returns-in-Err-Form-clause-form g c = λ is. record {
