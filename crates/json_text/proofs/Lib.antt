@@ -3,3 +3,4 @@ pub mod CleanTexts
 pub mod Documents
 pub mod ReadingFacts
 pub mod Utf8Texts
+pub mod Contents
