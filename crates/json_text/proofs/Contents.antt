@@ -1,10 +1,9 @@
 -- What a string of a UTF-8 text stands for is UTF-8.
-use Rattle.std.proofs.Common.{◌≡◌, ℕ, ◌+◌, ◌-◌, ◌*◌, ◌<◌, ◌≤◌, Bool, true, false, cond, ◌&&◌, ◌||◌, ◌==◌, nat_lt, List, [], ◌∷◌, ◌++◌, length, Option, Some, None, option_and_then, IfSome, inl, inr, ◌⊎◌, ⊎_elim, ◌∙◌, refl, sym, subst, arith, append_assoc, append-nil, length-append}
-use Rattle.std.specs.Prelude.{⊤}
+use Rattle.std.proofs.Common.{◌≡◌, ℕ, ◌+◌, ◌*◌, ◌<◌, ◌≤◌, true, false, ◌&&◌, ◌==◌, nat_lt, List, [], ◌∷◌, ◌++◌, length, Option, Some, None, option_and_then, IfSome, inl, inr, ◌⊎◌, ⊎_elim, ◌∙◌, refl, sym, subst, arith, append_assoc, append-nil, length-append}
 use Rattle.std.specs.Str.{IsUtf8}
 use Rattle.std.specs.Char.{IsScalar, digit_value, is_digit, encode_utf8}
 use Rattle.std.proofs.Math.Utf8.{low_scalar}
-use Rattle.std.proofs.lemmas.Bool.{and_parts, and_from, and_cases, or_cases, cond_both, eqb-true, ltb-true, ltb-false, leb-true, leb-false, le-ltb, lt-ltb, le-leb, cond-false, cases_lt}
+use Rattle.std.proofs.lemmas.Bool.{and_parts, and_from, and_cases, cond_both, eqb-true, ltb-true, ltb-false, leb-true, leb-false, le-ltb, lt-ltb, le-leb, cond-false}
 use Rattle.std.proofs.lemmas.List.{take_at, drop_at, get_or_at}
 use Rattle.std.proofs.lemmas.Str.{IsUtf8-append, IsUtf8-encode, IsUtf8-take, IsUtf8-drop, IsCharBoundary-before_ascii, IsCharBoundary-after_ascii}
 use Rattle.json.specs.Text.{code_unit, short_escape, is_high_surrogate, is_low_surrogate, surrogate_pair, Within, plain, after_backslash, after_u, after_high, prepend, content}

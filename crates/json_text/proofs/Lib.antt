@@ -4,3 +4,5 @@ pub mod Documents
 pub mod ReadingFacts
 pub mod Utf8Texts
 pub mod Contents
+pub mod TokenTexts
+pub mod ValueTexts
