@@ -6,3 +6,4 @@ pub mod Utf8Texts
 pub mod Contents
 pub mod TokenTexts
 pub mod ValueTexts
+pub mod FoundTexts

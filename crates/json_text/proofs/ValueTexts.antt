@@ -199,6 +199,9 @@ by_test : (text : List ℕ) (b : Bool) → is_utf8 text ≡ b → IfSome (if b t
 by_test text true is = read_utf8 text (IsUtf8-from_is_utf8 text is)
 by_test text false is = tt
 
+pub read_document_utf8 : (bytes : List ℕ) → IfSome (document bytes) HasUtf8
+read_document_utf8 bytes = by_test bytes (is_utf8 bytes) refl
+
 -- each text and each name of a document is UTF-8
 pub document_utf8 : (bytes : List ℕ) (d : Data) → document bytes ≡ Some d → HasUtf8 d
-document_utf8 bytes d is = subst (λ o. IfSome o HasUtf8) is (by_test bytes (is_utf8 bytes) refl)
+document_utf8 bytes d is = subst (λ o. IfSome o HasUtf8) is (read_document_utf8 bytes)
