@@ -3,3 +3,7 @@ pub mod CleanTexts
 pub mod Documents
 pub mod ReadingFacts
 pub mod Utf8Texts
+pub mod Contents
+pub mod TokenTexts
+pub mod ValueTexts
+pub mod FoundTexts

@@ -11,3 +11,4 @@ mod Preparing
 mod Places
 pub mod Issuing
 pub mod Replays
+pub mod SourceForms

@@ -29,7 +29,7 @@ below-passing : (limit : ℕ) (o : Option ℕ) → IfSome (option_and_then (pass
 below-passing limit None = tt
 below-passing limit (Some n) = below-tested n limit (nat_lt n limit) refl
 
-date-below : (o : Option Data) → IfSome (option_and_then date_of o) (λ n. n < 2 ^ 53)
+pub date-below : (o : Option Data) → IfSome (option_and_then date_of o) (λ n. n < 2 ^ 53)
 date-below None = tt
 date-below (Some d) = below-passing (2 ^ 53) (option_and_then as_u64 (as_number d))
 
@@ -54,12 +54,12 @@ at_most (suc count) (Some d) = at_most-more count (actor_of d) _ (at_most count 
 abbrev IsBounded : Claims → Type 0
 IsBounded claims = (claims.exp < 2 ^ 53) × (length claims.may_act ≤ 8)
 
-after-needed : {X : Type 0} (Q : X → Type 0) (P : Claims → Type 0) (fault : ClaimFault) (o : Option X) (next : X → Answer)
+pub after-needed : {X : Type 0} (Q : X → Type 0) (P : Claims → Type 0) (fault : ClaimFault) (o : Option X) (next : X → Answer)
     → IfSome o Q → ((x : X) → Q x → IfOk (next x) P) → IfOk (needed fault o >>= next) P
 after-needed Q P fault None next q h = tt
 after-needed Q P fault (Some x) next q h = h x q
 
-free : {X : Type 0} (o : Option X) → IfSome o (λ _. ⊤)
+pub free : {X : Type 0} (o : Option X) → IfSome o (λ _. ⊤)
 free None = tt
 free (Some x) = tt
 

@@ -1,3 +1,4 @@
 pub mod ActorLists
 pub mod HeldForms
 pub mod Payloads
+pub mod FormedClaims
