@@ -19,6 +19,7 @@ mod source;
 mod state;
 #[cfg(test)]
 mod tests;
+mod told;
 
 pub use active::write_active;
 pub use config::{Config, ConfigError, StartProvider};
@@ -28,8 +29,9 @@ pub use issued::find_issued;
 pub use key::Key;
 pub use laws::{good_link_has_exact_facts, payload_says_its_facts, payload_tells_its_number};
 pub use link::{Link, LinkKind, Source};
-pub use payload::{put_text, words_text, write_payload};
+pub use payload::{put_text, words_text, write_payload, write_told};
 pub use prepared::Prepared;
 pub use read_config::read_service_config;
 pub use recording::{CLOUD_PLATFORM, all_permissions, commit, prepare};
 pub use state::State;
+pub use told::{Bearer, Told};
