@@ -14,3 +14,4 @@ pub mod Reading
 pub mod Reads
 pub mod Sources
 pub mod State
+pub mod Told

@@ -1,15 +1,20 @@
-ghost use Rattle.std.specs.Prelude.{◌≡◌, ℕ, [], ◌∷◌, option_map, ◌+◌, min, IfOk, OnOk, codes};
+ghost use Rattle.std.specs.Prelude.{◌≡◌, ◌∷◌, map, option_map, IfOk, OnOk, codes};
+ghost use Rattle.std.specs.Cmp.Lexicographic.{slice_cmp};
+ghost use Rattle.std.specs.Ordering.{nat_cmp};
 ghost use Rattle.std.specs.String.{string_bytes};
-ghost use Rattle.serde_json.specs.Data.{Members, string, array, object, put, member, no_members};
+ghost use Rattle.std.specs.declared.cmp.Ordering.TheVariants.{Less};
+ghost use Rattle.serde_json.specs.Data.{string, array, object, put, member, no_members, no_items};
 ghost use Rattle.serde_json.specs.View.{view, members_view};
+ghost use Rattle.iam_names.specs.PoolName.{pool_text};
 ghost use Rattle.iam_names.specs.declared.who.Who.{Who};
-ghost use Rattle.links.specs.declared.link.LinkKind.{LinkKind};
-ghost use Rattle.links.specs.Facts.{facts_of, name_of, exp_of};
-ghost use Rattle.links.specs.Payload.{optional, texts, nested, attributes_data, who_data, wif_data, payload_data, payload_text, link_chain, words_text as joined};
+ghost use Rattle.links.specs.Facts.{facts_of, name_of};
+ghost use Rattle.links.specs.Payload.{items, optional, texts, nested, attributes_data, who_data, wif_data, payload_data, payload_text, link_chain, words_text as joined, last_words};
+ghost use Rattle.links.specs.Told.{bearer_who, told_facts};
 
-use crate::link::{Link, LinkKind, Source};
-use base_types::{Text, TextMap};
-use iam_names::{Identity, PoolName, ScopeWord};
+use crate::link::{Link, Source};
+use crate::told::{Bearer, Told, told_of};
+use base_types::{Items, Text, TextMap};
+use iam_names::{Account, Identity, PoolName, ScopeWord};
 use serde_json::{Map, Value};
 use std::alloc::{AllocError, Global};
 
@@ -42,25 +47,36 @@ pub fn put_text(
     serde_json::put(members, alloc, name, value)
 }
 
-fn actor_value(alloc: Global, name: &str, next: Option<Value>) -> Result<Value, AllocError>
+fn name_value(
+    alloc: Global,
+    member_name: &str,
+    name: &str,
+    next: Option<Value>,
+) -> Result<Value, AllocError>
+    requires { slice_cmp nat_cmp member_name.now (codes "sub") ≡ Less }
     ensures { IfOk result (λ value. view value ≡ object (
-        optional (codes "may_act") (option_map view next) (member (codes "sub") (string name.now) no_members))) }
+        optional member_name.now (option_map view next) (member (codes "sub") (string name.now) no_members))) }
 {
     let mut members = Map::new(alloc);
     put_text(alloc, &mut members, "sub", name)?;
     if let Some(value) = next {
-        serde_json::put(&mut members, alloc, "may_act", value)?;
+        serde_json::put(&mut members, alloc, member_name, value)?;
     }
     Ok(Value::Object(members))
 }
 
-/// Names inside one another, the first one outside.
-fn actors_value(alloc: Global, names: &[Text]) -> Result<Option<Value>, AllocError>
-    ensures { IfOk result (λ found. option_map view found ≡ nested (codes "may_act") names.now) }
+/// Names inside one another, the first one outside, each under a name before `sub`.
+fn names_value(
+    alloc: Global,
+    member_name: &str,
+    names: &[Text],
+) -> Result<Option<Value>, AllocError>
+    requires { slice_cmp nat_cmp member_name.now (codes "sub") ≡ Less }
+    ensures { IfOk result (λ found. option_map view found ≡ nested member_name.now names.now) }
 {
     let mut found = None;
     for at in (0..names.len()).rev() {
-        found = Some(actor_value(alloc, names[at].as_str(), found)?);
+        found = Some(name_value(alloc, member_name, names[at].as_str(), found)?);
     }
     Ok(found)
 }
@@ -83,16 +99,40 @@ fn texts_value(alloc: Global, list: &[Text]) -> Result<Value, AllocError>
     json_text::texts_value(alloc, list)
 }
 
-fn text_in_list(alloc: Global, text: &str) -> Result<Value, AllocError>
-    ensures { IfOk result (λ value. view value ≡ texts (text.now ∷ [])) }
+fn accounts_value(alloc: Global, accounts: &[Account]) -> Result<Value, AllocError>
+    ensures { IfOk result (λ value. view value ≡ texts accounts.now) }
 {
-    let mut items = Vec::new(alloc);
-    serde_json::push(&mut items, Value::try_from_str(alloc, text)?)?;
-    Ok(Value::Array(items))
+    let mut list = Vec::new(alloc);
+    for account in accounts {
+        serde_json::push(&mut list, Value::try_from_str(alloc, account.as_str())?)?;
+    }
+    Ok(Value::Array(list))
+}
+
+fn pools_value(alloc: Global, pools: &[PoolName]) -> Result<Value, AllocError>
+    ensures { IfOk result (λ value. view value ≡ array (items (λ pool. string (pool_text pool)) pools.now)) }
+{
+    let mut list = Vec::new(alloc);
+    for pool in pools {
+        let text = pool.print(alloc)?;
+        serde_json::push(&mut list, Value::try_from_str(alloc, text.as_str())?)?;
+    }
+    Ok(Value::Array(list))
+}
+
+fn scopes_value(alloc: Global, scopes: &[Items<ScopeWord>]) -> Result<Value, AllocError>
+    ensures { IfOk result (λ value. view value ≡ array (items (λ words. string (joined words)) scopes.now)) }
+{
+    let mut list = Vec::new(alloc);
+    for words in scopes {
+        let text = words_text(alloc, words.as_slice())?;
+        serde_json::push(&mut list, Value::try_from_str(alloc, text.as_str())?)?;
+    }
+    Ok(Value::Array(list))
 }
 
 #[tactic(auto, unfolding(crate::specs::Payload::who_data))]
-fn who_value(alloc: Global, pool: &PoolName, identity: &Identity) -> Result<Value, AllocError>
+fn outside_value(alloc: Global, pool: &PoolName, identity: &Identity) -> Result<Value, AllocError>
     ensures { IfOk result (λ value. view value ≡ who_data (Who.Outside pool.now identity.now)) }
 {
     let mut members = Map::new(alloc);
@@ -105,73 +145,135 @@ fn who_value(alloc: Global, pool: &PoolName, identity: &Identity) -> Result<Valu
     Ok(Value::Object(members))
 }
 
-fn empty_list(alloc: Global) -> Value
-    ensures { view result ≡ texts [] }
+#[tactic(auto, unfolding(crate::specs::Payload::who_data))]
+fn account_value(alloc: Global, account: &Account) -> Result<Value, AllocError>
+    ensures { IfOk result (λ value. view value ≡ who_data (Who.Account account.now)) }
+{
+    let mut members = Map::new(alloc);
+    put_text(alloc, &mut members, "account", account.as_str())?;
+    Ok(Value::Object(members))
+}
+
+fn who_value(alloc: Global, who: &Bearer<'_>) -> Result<Value, AllocError>
+    ensures { IfOk result (λ value. view value ≡ who_data (bearer_who who.now)) }
+{
+    match who {
+        Bearer::Outside { pool, identity } => outside_value(alloc, pool, identity),
+        Bearer::Account(account) => account_value(alloc, account),
+    }
+}
+
+fn no_bounds(alloc: Global) -> Value
+    ensures { view result ≡ array no_items }
 {
     Value::Array(Vec::new(alloc))
 }
 
-#[tactic(auto, unfolding(crate::specs::Payload::wif_data, crate::specs::Facts::facts_of))]
-fn wif_value(alloc: Global, link: &Link, source: &Source) -> Result<Value, AllocError>
-    requires { link.now.kind ≡ LinkKind.Federated source.now }
-    ensures { IfOk result (λ value. (number : ℕ) → view value ≡ wif_data (facts_of (link_chain number link.now))) }
+#[tactic(auto, unfolding(crate::specs::Payload::wif_data))]
+fn wif_value(alloc: Global, told: &Told<'_>) -> Result<Value, AllocError>
+    ensures { IfOk result (λ value. view value ≡ wif_data (told_facts told.now)) }
 {
     let mut members = Map::new(alloc);
-    serde_json::put(&mut members, alloc, "accounts", empty_list(alloc))?;
-    serde_json::put(&mut members, alloc, "bounds", empty_list(alloc))?;
-    let pools = text_in_list(alloc, source.pool.print(alloc)?.as_str())?;
+    let accounts = accounts_value(alloc, told.accounts)?;
+    serde_json::put(&mut members, alloc, "accounts", accounts)?;
+    serde_json::put(&mut members, alloc, "bounds", no_bounds(alloc))?;
+    let pools = pools_value(alloc, told.pools)?;
     serde_json::put(&mut members, alloc, "pools", pools)?;
-    let scopes = text_in_list(alloc, words_text(alloc, link.words.as_slice())?.as_str())?;
+    let scopes = scopes_value(alloc, told.scopes)?;
     serde_json::put(&mut members, alloc, "scopes", scopes)?;
-    let who = who_value(alloc, &source.pool, &source.identity)?;
+    let who = who_value(alloc, &told.who)?;
     serde_json::put(&mut members, alloc, "who", who)?;
     Ok(Value::Object(members))
+}
+
+fn outside_name(alloc: Global, pool: &PoolName, identity: &Identity) -> Result<Text, AllocError>
+    ensures { IfOk result (λ text. text ≡ name_of (Who.Outside pool.now identity.now)) }
+{
+    let path = pool.path(alloc)?;
+    let path = path.as_str();
+    let subject = identity.subject.as_str();
+    Ok(Text::new(format!(in alloc; "principal://{path}/subject/{subject}")?))
+}
+
+fn account_name(alloc: Global, account: &Account) -> Result<Text, AllocError>
+    ensures { IfOk result (λ text. text ≡ name_of (Who.Account account.now)) }
+{
+    let account = account.as_str();
+    Ok(Text::new(format!(in alloc; "serviceAccount:{account}")?))
 }
 
 pub(crate) fn subject_name(alloc: Global, source: &Source) -> Result<Text, AllocError>
     ensures { IfOk result (λ text. text ≡ name_of (Who.Outside source.now.pool source.now.identity)) }
 {
-    let path = source.pool.path(alloc)?;
-    let path = path.as_str();
-    let subject = source.identity.subject.as_str();
-    Ok(Text::new(format!(in alloc; "principal://{path}/subject/{subject}")?))
+    outside_name(alloc, &source.pool, &source.identity)
 }
 
-#[tactic(auto, unfolding(crate::specs::Payload::payload_data, crate::specs::Facts::facts_of))]
+/// The name that a token shows as its subject.
+fn bearer_name(alloc: Global, who: &Bearer<'_>) -> Result<Text, AllocError>
+    ensures { IfOk result (λ text. text ≡ name_of (bearer_who who.now)) }
+{
+    match who {
+        Bearer::Outside { pool, identity } => outside_name(alloc, pool, identity),
+        Bearer::Account(account) => account_name(alloc, account),
+    }
+}
+
+/// The words of the last exchange.
+#[tactic(auto, using(crate::proofs::Writing::last_words_at))]
+fn last_scope(alloc: Global, scopes: &[Items<ScopeWord>]) -> Result<Text, AllocError>
+    ensures { IfOk result (λ text. text ≡ joined (last_words scopes.now)) }
+{
+    match scopes.last() {
+        None => Text::copy_of(alloc, ""),
+        Some(words) => words_text(alloc, words.as_slice()),
+    }
+}
+
+#[tactic(auto, unfolding(crate::specs::Payload::payload_data))]
 fn put_claims(
     alloc: Global,
     members: &mut Map<String, Value>,
     issuer: &str,
-    number: u32,
-    link: &Link,
-    source: &Source,
+    told: &Told<'_>,
 ) -> Result<(), AllocError>
-    requires kind { link.now.kind ≡ LinkKind.Federated source.now }
-    requires empty { members_view members.old.entries ≡ no_members }
+    requires { members_view members.old.entries ≡ no_members }
     ensures { OnOk result (object (members_view members.new.entries)
-        ≡ payload_data issuer.now (facts_of (link_chain number link.now))) }
+        ≡ payload_data issuer.now (told_facts told.now)) }
 {
-    if let Some(actors) = actors_value(alloc, source.may_act.as_slice())? {
-        serde_json::put(members, alloc, "may_act", actors)?;
+    if let Some(actors) = names_value(alloc, "act", told.act)? {
+        serde_json::put(members, alloc, "act", actors)?;
     }
-    let exp = Value::from(link.exp());
-    serde_json::put(members, alloc, "exp", exp)?;
-    serde_json::put(members, alloc, "iat", Value::from(link.at))?;
+    serde_json::put(members, alloc, "exp", Value::from(told.exp))?;
+    serde_json::put(members, alloc, "iat", Value::from(told.at))?;
     put_text(alloc, members, "iss", issuer)?;
+    let number = told.number;
     put_text(
         alloc,
         members,
         "jti",
         format!(in alloc; "{number}")?.as_str(),
     )?;
-    let scope = words_text(alloc, link.words.as_slice())?;
+    if let Some(actors) = names_value(alloc, "may_act", told.may_act)? {
+        serde_json::put(members, alloc, "may_act", actors)?;
+    }
+    let scope = last_scope(alloc, told.scopes)?;
     put_text(alloc, members, "scope", scope.as_str())?;
-    put_text(alloc, members, "sub", subject_name(alloc, source)?.as_str())?;
-    serde_json::put(members, alloc, "wif", wif_value(alloc, link, source)?)
+    let name = bearer_name(alloc, &told.who)?;
+    put_text(alloc, members, "sub", name.as_str())?;
+    serde_json::put(members, alloc, "wif", wif_value(alloc, told)?)
 }
 
-/// The payload of an access token of the link with that number, as a compact JSON text (RFC 7519;
-/// RFC 8693, section 4).
+/// The payload of a token that tells these facts, as a compact JSON text (RFC 7519; RFC 8693,
+/// section 4).
+pub fn write_told(alloc: Global, issuer: &str, told: &Told<'_>) -> Result<Text, AllocError>
+    ensures { IfOk result (λ text. text ≡ payload_text issuer.now (told_facts told.now)) }
+{
+    let mut members = Map::new(alloc);
+    put_claims(alloc, &mut members, issuer, told)?;
+    Ok(Text::new(Value::Object(members).to_string(alloc)?))
+}
+
+/// The payload of an access token of the link with that number.
 pub fn write_payload(
     alloc: Global,
     issuer: &str,
@@ -180,8 +282,5 @@ pub fn write_payload(
 ) -> Result<Text, AllocError>
     ensures { IfOk result (λ text. text ≡ payload_text issuer.now (facts_of (link_chain number link.now))) }
 {
-    let LinkKind::Federated(source) = &link.kind;
-    let mut members = Map::new(alloc);
-    put_claims(alloc, &mut members, issuer, number, link, source)?;
-    Ok(Text::new(Value::Object(members).to_string(alloc)?))
+    write_told(alloc, issuer, &told_of(number, link))
 }

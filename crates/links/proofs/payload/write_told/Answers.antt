@@ -3,15 +3,15 @@ use Rattle.serde_json.specs.View.{view}
 use Rattle.serde_json.specs.Written.{has_float, compact_text}
 use Rattle.serde_json.specs.declared.value.Value.{Object}
 use Rattle.serde_json.proofs.Views.{view-Object}
-use Rattle.links.specs.Facts.{facts_of}
-use Rattle.links.specs.Payload.{payload_data, payload_text, link_chain}
+use Rattle.links.specs.Told.{told_facts}
+use Rattle.links.specs.Payload.{payload_data, payload_text}
 use Rattle.links.proofs.Floats.{payload_floatless}
-use Rattle.links.proofs.payload.write_payload.Goals as goal
+use Rattle.links.proofs.payload.write_told.Goals as goal
 
 pub returns : goal.returns
 unfolding payload_text
 returns c =
-    let facts = facts_of (link_chain c.args.number c.args.link.now) in
+    let facts = told_facts c.args.told.now in
     let members = c.put_claims.new.members in
     let built : view (Object members) ≡ payload_data c.args.issuer.now facts = view-Object members ∙ c.in_ok-put_claims.ensures in
     let text = c.in_ok-to_string.ensures.text (ap has_float built ∙ payload_floatless c.args.issuer.now facts) in
