@@ -16,6 +16,8 @@ use Rattle.wif_claims.proofs.FormedClaims.{IsUtf8Tree, AreFormed, claims_formed}
 use Rattle.links.specs.declared.config.StartProvider.{StartProvider}
 use Rattle.links.specs.declared.fault.RuleCode.{RuleCode}
 use Rattle.links.specs.declared.link.Source.{Source}
+use Rattle.links.specs.declared.fault.ApplyFault.{ApplyFault}
+use Rattle.links.specs.Reads.{Gives}
 use Rattle.links.specs.Exact.{IsGoodPool, IsGoodSource}
 use Rattle.links.specs.Forms.{IsFormedSource}
 use Rattle.links.specs.Sources.{◌>>=◌, opened, claimed_by, passed, first_admission_fault, value_in, value_under, text_of_value, subject_claim, subject_by, source_by, source_of_claims, source_of}
@@ -125,3 +127,25 @@ token_source provider token at pool =
 -- what an outside token gives under a provider has its forms
 pub source_forms : (provider : StartProvider) (token : List ℕ) (at : ℕ) (s : Source) → IsGoodPool provider.pool → source_of provider token at ≡ Ok s → IsGoodSource s × IsFormedSource s
 source_forms provider token at s pool is = subst (λ r. IfOk r IsFormed) is (token_source provider token at pool)
+
+-- ---- its pool is the provider's
+
+claims_pool : (provider : StartProvider) (claims : Claims) (at : ℕ) → IfOk (source_of_claims provider claims at) (λ s. s.pool ≡ provider.pool)
+unfolding source_of_claims
+claims_pool provider claims at =
+    let subject = subject_claim claims in
+    after_rules (λ s. s.pool ≡ provider.pool) (first_admission_fault provider claims at) (subject_by subject >>= (λ found. Ok (source_by provider claims found)))
+    (after_step (λ _. Unit {0}) (λ s. s.pool ≡ provider.pool) (subject_by subject) (λ found. Ok (source_by provider claims found)) (any (subject_by subject)) (λ found _. refl))
+
+token_pool : (provider : StartProvider) (token : List ℕ) (at : ℕ) → IfOk (source_of provider token at) (λ s. s.pool ≡ provider.pool)
+unfolding source_of
+token_pool provider token at =
+    after_step (λ _. Unit {0}) (λ s. s.pool ≡ provider.pool) (opened provider.key token) _ (any (opened provider.key token)) (λ payload _.
+    after_step (λ _. Unit {0}) (λ s. s.pool ≡ provider.pool) (claimed_by (claims_of payload)) _ (any (claimed_by (claims_of payload))) (λ claims _. claims_pool provider claims at))
+
+-- what was read has its forms
+pub read_forms : (provider : StartProvider) (token : List ℕ) (at : ℕ) (r : Result Source ApplyFault) → Gives (λ (s : Source). s) r (source_of provider token at) → IfOk r IsGoodSource → IfOk r IsFormedSource
+read_forms provider token at (Ok s) is good =
+    let pool : s.pool ≡ provider.pool = subst (λ r. IfOk r (λ (k : Source). k.pool ≡ provider.pool)) is (token_pool provider token at) in
+    (source_forms provider token at s (subst IsGoodPool pool good.pool) is).1
+read_forms provider token at (Err fault) is good = tt

@@ -15,6 +15,7 @@ use Rattle.links.specs.declared.link.LinkKind.{LinkKind}
 use Rattle.links.specs.declared.link.LinkKind.TheVariants.{Federated}
 use Rattle.links.specs.declared.link.Source.{Source}
 use Rattle.links.specs.Facts.{Facts}
+use Rattle.links.specs.Forms.{IsFormedLink}
 
 abbrev pub AreUtf8 : List (List ℕ) → Type 0
 AreUtf8 xs = AllByRecursion IsUtf8 xs
@@ -71,3 +72,4 @@ pub record IsGoodLink (link : Link) : Type 0 where
   pub at : link.at ≤ 200_000_000_000
   pub words : AllByRecursion (λ word. is_scope_word word ≡ true) link.words
   pub kind : IsGoodKind link.kind
+  pub formed : IsFormedLink link

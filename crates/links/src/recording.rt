@@ -4,6 +4,7 @@ ghost use Rattle.iam_names.specs.Forms.{is_scope_word};
 ghost use Rattle.service_view.specs.Puts.{put_fault};
 ghost use Rattle.service_view.specs.View.{cloud_platform as word_from_start, pool_enabled};
 ghost use Rattle.links.specs.Exact.{IsGoodLink, IsGoodSource};
+ghost use Rattle.links.specs.Forms.{IsFormedSource};
 ghost use Rattle.links.specs.Entries.{IsEntry, IsExchange};
 ghost use Rattle.links.specs.declared.entry.Entry.TheVariants as entries;
 ghost use Rattle.hmac_jws.specs.Compact.{compact};
@@ -264,6 +265,7 @@ fn source_in(
 ) -> Result<Source, ApplyFault>
     ensures gives { Gives (λ source. source) result (source_at state.now.content provider.now token.now at) }
     ensures good { IfOk result IsGoodSource }
+    ensures formed { IfOk result IsFormedSource }
 {
     let provider = provider_named(alloc, state, provider)?;
     check_pool(state, provider)?;

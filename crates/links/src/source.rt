@@ -4,6 +4,7 @@ ghost use Rattle.std.specs.List.{list_any};
 ghost use Rattle.std.specs.Str.{bytes_eq};
 ghost use Rattle.wif_claims.specs.Forms.{HasForms};
 ghost use Rattle.links.specs.Exact.{IsGoodSource};
+ghost use Rattle.links.specs.Forms.{IsFormedSource};
 ghost use Rattle.links.specs.Reads.{Gives, Passes};
 ghost use Rattle.links.specs.Sources.{source_of, source_of_claims, first_admission_fault, opened, claimed_by, accepts, is_acceptable, subject_claim, subject_by, text_of_value, value_under, value_in, provider_name, timing_fault};
 ghost use Rattle.wif_claims.specs.Payload.{claims_of};
@@ -25,8 +26,21 @@ fn unlicensed(rule: RuleCode) -> ApplyFault
 }
 
 /// What an outside token gives under the provider at a moment.
-#[tactic(auto, unfolding(crate::specs::Sources::source_of))]
 pub(crate) fn read_source(
+    alloc: Global,
+    provider: &StartProvider,
+    token: &str,
+    at: u64,
+) -> Result<Source, ApplyFault>
+    ensures gives { Gives (λ source. source) result (source_of provider.now token.now at) }
+    ensures good { IfOk result IsGoodSource }
+    ensures formed { IfOk result IsFormedSource }
+{
+    source_under(alloc, provider, token, at)
+}
+
+#[tactic(auto, unfolding(crate::specs::Sources::source_of))]
+fn source_under(
     alloc: Global,
     provider: &StartProvider,
     token: &str,
