@@ -1,0 +1,4 @@
+pub mod Carried
+pub mod Facts
+pub mod Formed
+pub mod Reads
