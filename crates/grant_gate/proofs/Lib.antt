@@ -5,3 +5,5 @@ pub mod Forms
 pub mod Options
 pub mod Steps
 pub mod Words
+pub mod Agrees
+pub mod Checks

@@ -4,8 +4,11 @@
 mod actors;
 mod attributes;
 mod claims;
+mod deciding;
+mod decision;
 mod facts;
 mod fault;
+mod laws;
 mod numbers;
 mod reading;
 mod scopes;
@@ -14,6 +17,9 @@ mod tests;
 mod who;
 mod wif;
 
+pub use deciding::decide;
+pub use decision::{Decision, GateRule};
 pub use facts::TokenFacts;
 pub use fault::GateFault;
+pub use laws::gate_agrees_with_the_chain;
 pub use reading::carried;

@@ -124,3 +124,35 @@ other_by c text told n kept tells is other (inr found) =
 
 pub other-told : (c : Content) (text : List ℕ) (told : Option ℕ) (n : ℕ) → IsKept c → Tells c.key text told → told ≡ Some n → is_text_of c text (chain c n) ≡ false → issued_link c text ≡ None
 other-told c text told n kept tells is other = other_by c text told n kept tells is other (cases (is_text_of c text) (chains_of c.links))
+
+-- ---- the link that a text was issued for
+
+pub record IsIssued (c : Content) (text : List ℕ) (n : ℕ) (link : Link) : Type 0 where
+  pub number : issued_link c text ≡ Some n
+  pub chain_is : chain c n ≡ Some (link_chain n link)
+  pub text_is : token_text c (link_chain n link) ≡ text
+  pub low : n < 2 ^ 32
+  pub good : IsGoodLink link
+
+-- no link's token is the text, or one that is known
+pub IssuedOrNot : Content → List ℕ → Type 0
+IssuedOrNot c text = (issued_link c text ≡ None) ⊎ ((n : ℕ) × (link : Link) × IsIssued c text n link)
+
+issued_by : (c : Content) (text : List ℕ) → IsKept c → Cases c text → IssuedOrNot c text
+unfolding issued_link
+issued_by c text kept (inl (none, nowhere)) = inl nowhere
+issued_by c text kept (inr found) =
+    let there : slice_get (chains_from 0 c.links) found.number ≡ Some found.element = subst (λ (l : List (Option Chain)). slice_get l found.number ≡ Some found.element) (chains_of-from c.links) found.there in
+    let at = chain_found-all c.links found.number found.element there in
+    let passes : is_text_of c text (Some (link_chain found.number at.link)) ≡ true = subst (λ (o : Option Chain). is_text_of c text o ≡ true) at.is found.passes in
+    let within : found.number < length c.links = slice_get_within c.links found.number at.link at.there in
+    inr (found.number, at.link, record {
+      number = found.is;
+      chain_is = chain-there c found.number at.link at.there;
+      text_is = (bytes_eq-Decides (token_text c (link_chain found.number at.link)) text).0 passes;
+      low = omega (arith, within, kept.few);
+      good = good_at c.links found.number at.link kept.links at.there;
+    })
+
+pub issued_cases : (c : Content) (text : List ℕ) → IsKept c → IssuedOrNot c text
+issued_cases c text kept = issued_by c text kept (cases (is_text_of c text) (chains_of c.links))

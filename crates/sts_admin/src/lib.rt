@@ -9,4 +9,5 @@ mod reading;
 mod tests;
 
 pub use command::{CommandFault, CommandMember};
+pub use members::name_at;
 pub use reading::read_command;

@@ -24,7 +24,7 @@ fn name_of<F: Form>(alloc: Global, text: &str) -> Result<Option<Name<F>>, AllocE
 }
 
 /// The text of the form under a name.
-pub(crate) fn name_at<F: Form>(
+pub fn name_at<F: Form>(
     alloc: Global,
     json: &Value,
     name: &str,

@@ -11,7 +11,10 @@ use Rattle.links.specs.declared.entry.Entry.{Entry}
 use Rattle.links.specs.declared.entry.Entry.TheVariants.{Put}
 use Rattle.serde_json.specs.Data.{Data}
 use Rattle.serde_json.specs.Find.{as_object}
-use Rattle.json_text.specs.Document.{document}
+use Rattle.json_text.specs.Document.{document, text_at}
+use Rattle.iam_names.specs.Forms.{is_permission, is_resource}
+use Rattle.sts_admin.specs.Members.{name_at}
+use Rattle.grant_gate.specs.Decision.{check_decision}
 use Rattle.json_text.specs.Forms.{passing}
 use Rattle.service_view.specs.declared.command.Command.{Command}
 use Rattle.sts_admin.specs.declared.command.CommandFault.{CommandFault}
@@ -27,7 +30,7 @@ use Rattle.links.specs.State.{Content, chain, start_of, state_after}
 use Rattle.sts_core.specs.Asked.{asked_entry}
 use Rattle.sts_core.specs.Forms.{form_of, is_all_text, once}
 use Rattle.sts_core.specs.Refusals.{refusal_of, command_refusal}
-use Rattle.sts_core.specs.Replies.{u1, n2, a1, not_built, inactive, issued, entered}
+use Rattle.sts_core.specs.Replies.{u1, n2, a1, bad_argument, decision_reply, not_built, inactive, issued, entered}
 use Rattle.sts_core.specs.Unbuilt.{is_unbuilt}
 
 pub record Answer : Type 0 where
@@ -108,6 +111,22 @@ command_in c (Some d) = if is_unbuilt d then no_entry not_built else commanded c
 unfoldable pub administration : List ℕ → Content → Request → Answer
 administration secret c request = if is_bearer secret request.bearer then command_in c (object_of request.body) else no_entry u1
 
+-- ---- checks
+
+abbrev pub check_asked : Content → ℕ → Option (List ℕ) → Option (List ℕ) → Option (List ℕ) → Reply
+check_asked c at None permission resource = bad_argument (codes "C2")
+check_asked c at (Some token) None resource = bad_argument (codes "C3")
+check_asked c at (Some token) (Some permission) None = bad_argument (codes "C4")
+check_asked c at (Some token) (Some permission) (Some resource) = decision_reply (check_decision c token permission resource at)
+
+abbrev pub check_in : Content → ℕ → Option Data → Reply
+check_in c at None = bad_argument (codes "C1")
+check_in c at (Some d) = check_asked c at (text_at (codes "token") d) (name_at is_permission (codes "permission") d) (name_at is_resource (codes "resource") d)
+
+-- the permission on the resource is admitted or denied, where the bearer is the secret
+unfoldable pub checking : List ℕ → Content → Request → ℕ → Reply
+checking gate c request at = if is_bearer gate request.bearer then check_in c at (object_of request.body) else u1
+
 -- ---- any request
 
 -- the machine's answer to a request of a route
@@ -115,7 +134,7 @@ abbrev pub step_of : Route → Config → Content → Request → ℕ → Answer
 step_of Token config c request at = exchange c request at
 step_of (Generate account) config c request at = no_entry not_built
 step_of Introspect config c request at = no_entry (introspection config.gate c request at)
-step_of Check config c request at = no_entry not_built
+step_of Check config c request at = no_entry (checking config.gate c request at)
 step_of Admin config c request at = administration config.admin c request
 
 abbrev pub step : Config → List Entry → Request → ℕ → Answer

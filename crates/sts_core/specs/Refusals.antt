@@ -13,7 +13,7 @@ use Rattle.links.specs.declared.fault.RuleCode.TheVariants.{E11, E14, E15, E16, 
 use Rattle.sts_admin.specs.Names.{member_name}
 use Rattle.sts_admin.specs.declared.command.CommandFault.{CommandFault}
 use Rattle.sts_admin.specs.declared.command.CommandFault.TheVariants.{Kind, Field, Memory}
-use Rattle.sts_core.specs.Replies.{refusal}
+use Rattle.sts_core.specs.Replies.{refusal, bad_argument}
 
 abbrev pub jws_text : JwsFault → List ℕ
 jws_text jws.Parts = codes "Parts"
@@ -76,4 +76,4 @@ fault_text (Field member) = codes "A3 " ++ member_name member
 fault_text fault = codes "A2"
 
 abbrev pub command_refusal : CommandFault → Reply
-command_refusal fault = refusal 400 (codes "invalid_argument") (fault_text fault)
+command_refusal fault = bad_argument (fault_text fault)

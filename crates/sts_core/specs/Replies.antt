@@ -8,6 +8,10 @@ use Rattle.links.specs.declared.entry.Entry.TheVariants.{Put, Federated}
 use Rattle.links.specs.declared.prepared.Prepared.{Prepared}
 use Rattle.links.specs.Payload.{words_text}
 use Rattle.wif_base.specs.declared.request.Reply.{Reply}
+use Rattle.grant_gate.specs.declared.decision.Decision.{Decision}
+use Rattle.grant_gate.specs.declared.decision.Decision.TheVariants.{Admit, Deny}
+use Rattle.grant_gate.specs.declared.decision.GateRule.{GateRule}
+use Rattle.grant_gate.specs.declared.decision.GateRule.TheVariants as gate
 
 -- `{"error":WORD,"error_description":TEXT}`
 abbrev pub refusal : ℕ → List ℕ → List ℕ → Reply
@@ -24,9 +28,12 @@ u1 = refusal 401 (codes "invalid_token") (codes "U1")
 abbrev pub n2 : Reply
 n2 = refusal 400 (codes "invalid_request") (codes "N2")
 
--- the body is no JSON object
+abbrev pub bad_argument : List ℕ → Reply
+bad_argument text = refusal 400 (codes "invalid_argument") text
+
+-- a command's body is no JSON object
 abbrev pub a1 : Reply
-a1 = refusal 400 (codes "invalid_argument") (codes "A1")
+a1 = bad_argument (codes "A1")
 
 -- a request of a form that isn't built yet
 abbrev pub not_built : Reply
@@ -71,3 +78,29 @@ issued prepared = record {
 
 abbrev pub entered : ℕ → Reply
 entered n = record { status = 200; body = codes "{\"entry\":" ++ (decimal n ++ codes "}") }
+
+-- ---- a decision
+
+abbrev pub rule_code : GateRule → List ℕ
+rule_code gate.G1 = codes "G1"
+rule_code gate.G2 = codes "G2"
+rule_code gate.G3 = codes "G3"
+rule_code gate.G4 = codes "G4"
+rule_code gate.G5 = codes "G5"
+rule_code gate.G6 = codes "G6"
+rule_code gate.G7 = codes "G7"
+rule_code gate.G9 = codes "G9"
+
+-- the member that tells the place, with the rules of lists
+abbrev pub place_member : GateRule → ℕ → List ℕ
+place_member gate.G5 place = codes "\"place\":" ++ (decimal place ++ codes ",")
+place_member gate.G6 place = codes "\"place\":" ++ (decimal place ++ codes ",")
+place_member gate.G7 place = codes "\"place\":" ++ (decimal place ++ codes ",")
+place_member rule place = []
+
+abbrev pub denial_text : GateRule → ℕ → List ℕ
+denial_text rule place = codes "{\"allowed\":false," ++ (place_member rule place ++ (codes "\"reason\":\"" ++ (rule_code rule ++ codes "\"}")))
+
+abbrev pub decision_reply : Decision → Reply
+decision_reply Admit = record { status = 200; body = codes "{\"allowed\":true}" }
+decision_reply (Deny rule place) = record { status = 200; body = denial_text rule place }

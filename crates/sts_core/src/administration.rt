@@ -1,19 +1,19 @@
-ghost use Rattle.std.specs.Prelude.{◌≡◌, ◌<◌, ◌-◌, ◌^◌, IfOk, OnOk, OnErr, Ok, Some, length, option_map};
+ghost use Rattle.std.specs.Prelude.{◌≡◌, ◌<◌, ◌-◌, ◌^◌, IfOk, OnOk, OnErr, Ok, Some, length};
 ghost use Rattle.serde_json.specs.View.{view};
 ghost use Rattle.sts_admin.specs.Commands.{command_of};
-ghost use Rattle.sts_core.specs.Machine.{administration, command_in, commanded, object_of as body_object, with_entry};
+ghost use Rattle.sts_core.specs.Machine.{administration, command_in, commanded, with_entry};
 
 use crate::Stop;
+use crate::body::read_object;
 use crate::introspection::is_bearer;
 use crate::refusal::{command_refused, refusal_of};
-use crate::reply::{entered, no_bearer, no_object, not_built};
+use crate::reply::{bad_argument, entered, no_bearer, not_built};
 use crate::unbuilt::is_unbuilt;
 use base_types::Text;
-use json_text::{DocumentFault, read_document};
 use links::{ApplyFault, Entry, State, commit, prepare};
 use serde_json::Value;
 use service_view::Command;
-use std::alloc::{AllocError, Global};
+use std::alloc::Global;
 use sts_admin::{CommandFault, read_command};
 use wif_base::{Reply, Request};
 
@@ -38,23 +38,7 @@ pub(crate) fn administer(
     }
     match read_object(alloc, request.body.as_slice())? {
         Some(json) => obey(alloc, state, &json),
-        None => Ok(no_object(alloc)?),
-    }
-}
-
-// The object that a body is.
-fn read_object(alloc: Global, body: &[u8]) -> Result<Option<Value>, AllocError>
-    ensures { IfOk result (λ found. option_map (λ json. view json) found ≡ body_object body.now) }
-{
-    match read_document(alloc, body) {
-        Ok(json) => {
-            if json.as_object().is_some() {
-                return Ok(Some(json));
-            }
-            Ok(None)
-        }
-        Err(DocumentFault::NoJson) => Ok(None),
-        Err(DocumentFault::Memory) => Err(AllocError),
+        None => Ok(bad_argument(alloc, "A1")?),
     }
 }
 

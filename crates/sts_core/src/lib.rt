@@ -2,6 +2,8 @@
 #![tactic(auto)]
 
 mod administration;
+mod body;
+mod checking;
 mod exchange;
 mod form;
 mod introspection;

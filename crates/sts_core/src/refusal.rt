@@ -1,7 +1,7 @@
 ghost use Rattle.std.specs.Prelude.{◌≡◌, ◌++◌, IfOk};
 ghost use Rattle.sts_core.specs.Refusals.{jws_text, claim_text, map_text, rule_text, word_of, refusal_of as refusal, fault_text as command_text, command_refusal};
 
-use crate::reply::refused;
+use crate::reply::{bad_argument, refused};
 use base_types::Text;
 use hmac_jws::JwsFault;
 use links::{MapFault, RuleCode};
@@ -51,7 +51,7 @@ pub(crate) fn command_refused(alloc: Global, fault: CommandFault) -> Result<Repl
     ensures { IfOk result (λ reply. reply ≡ command_refusal fault) }
 {
     let text = fault_text(alloc, fault)?;
-    refused(alloc, 400, "invalid_argument", text.as_str())
+    bad_argument(alloc, text.as_str())
 }
 
 fn fault_text(alloc: Global, fault: CommandFault) -> Result<Text, AllocError>

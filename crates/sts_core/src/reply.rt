@@ -6,6 +6,7 @@ ghost use Rattle.links.specs.Payload.{words_text as joined};
 ghost use Rattle.sts_core.specs.Replies as replies;
 
 use base_types::{Bytes, Text};
+use grant_gate::{Decision, GateRule};
 use iam_names::ScopeWord;
 use links::{Entry, Prepared, put_text, words_text};
 use serde_json::{Map, Value};
@@ -64,14 +65,11 @@ pub(crate) fn no_token(alloc: Global) -> Result<Reply, AllocError>
     )
 }
 
-pub(crate) fn no_object(alloc: Global) -> Result<Reply, AllocError>
-    ensures { IfOk result (λ reply. reply ≡ replies.a1) }
+/// A refusal of what a body says.
+pub(crate) fn bad_argument(alloc: Global, text: &str) -> Result<Reply, AllocError>
+    ensures { IfOk result (λ reply. reply ≡ replies.bad_argument text.now) }
 {
-    reply_of(
-        alloc,
-        400,
-        b"{\"error\":\"invalid_argument\",\"error_description\":\"A1\"}",
-    )
+    refused(alloc, 400, "invalid_argument", text)
 }
 
 pub(crate) fn inactive(alloc: Global) -> Result<Reply, AllocError>
@@ -175,4 +173,49 @@ fn put_issued(
     put_text(alloc, members, "issued_token_type", ACCESS_TOKEN_TYPE)?;
     put_text(alloc, members, "scope", scope)?;
     put_text(alloc, members, "token_type", "Bearer")
+}
+
+/// The reply to a check.
+pub(crate) fn decided(alloc: Global, decision: Decision) -> Result<Reply, AllocError>
+    ensures { IfOk result (λ reply. reply ≡ replies.decision_reply decision) }
+{
+    match decision {
+        Decision::Admit => reply_of(alloc, 200, b"{\"allowed\":true}"),
+        Decision::Deny { rule, place } => { json_reply(denial_text(alloc, rule, place)?) }
+    }
+}
+
+fn denial_text(alloc: Global, rule: GateRule, place: usize) -> Result<Text, AllocError>
+    ensures { IfOk result (λ text. text ≡ replies.denial_text rule place) }
+{
+    let member = place_member(alloc, rule, place)?;
+    let member = member.as_str();
+    let code = code_of(rule);
+    Ok(Text::new(format!(in alloc; "{{\"allowed\":false,{member}\"reason\":\"{code}\"}}")?))
+}
+
+fn place_member(alloc: Global, rule: GateRule, place: usize) -> Result<Text, AllocError>
+    ensures { IfOk result (λ text. text ≡ replies.place_member rule place) }
+{
+    match rule {
+        GateRule::G5 | GateRule::G6 | GateRule::G7 => {
+            Ok(Text::new(format!(in alloc; "\"place\":{place},")?))
+        }
+        _ => Ok(Text::new(String::new(alloc))),
+    }
+}
+
+fn code_of(rule: GateRule) -> &'static str
+    ensures { result.now ≡ replies.rule_code rule }
+{
+    match rule {
+        GateRule::G1 => "G1",
+        GateRule::G2 => "G2",
+        GateRule::G3 => "G3",
+        GateRule::G4 => "G4",
+        GateRule::G5 => "G5",
+        GateRule::G6 => "G6",
+        GateRule::G7 => "G7",
+        GateRule::G9 => "G9",
+    }
 }

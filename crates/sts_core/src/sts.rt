@@ -1,7 +1,8 @@
 ghost use Rattle.std.specs.Prelude.{◌≡◌, ◌≤◌, IfOk, OnOk, OnErr, []};
-ghost use Rattle.sts_core.specs.Machine.{content_of, exchange as exchange_of, administration, introspection, step, with_entry};
+ghost use Rattle.sts_core.specs.Machine.{content_of, exchange as exchange_of, administration, checking, introspection, step, with_entry};
 
 use crate::administration::administer;
+use crate::checking::check;
 use crate::exchange::exchange;
 use crate::introspection::introspect;
 use crate::reply::not_built;
@@ -84,6 +85,7 @@ impl<D: Disk> Sts<D> {
         match &request.route {
             Route::Token => self.exchange(alloc, request, at),
             Route::Introspect => self.introspect(alloc, request, at),
+            Route::Check => self.check(alloc, request, at),
             Route::Admin => self.admin(alloc, request, at),
             _ => Ok(not_built(alloc)?),
         }
@@ -104,6 +106,19 @@ impl<D: Disk> Sts<D> {
             return Err(Stop::Memory);
         }
         exchange(alloc, &mut self.state, request, at)
+    }
+
+    /// Answers whether a token is admitted to a permission on a resource: exactly where the link that it was issued for is
+    /// live and allows it and its principal is granted it, and for any other text by what it carries under the key.
+    pub fn check(&self, alloc: Global, request: &Request, at: u64) -> Result<Reply, Stop>
+        ensures { IfOk result (λ reply. reply ≡ checking self.now.gate (content_of (configuration self.now) (journal self.now)) request.now at) }
+    {
+        // Its contract says that the state is the one that its entries leave.
+        let _count = self.state.entry_count();
+        if self.state.is_full() {
+            return Err(Stop::Memory);
+        }
+        Ok(check(alloc, &self.gate, &self.state, request, at)?)
     }
 
     /// Answers a command of an administrator: what it puts stands in place of what stood under its name.

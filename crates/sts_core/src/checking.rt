@@ -1,0 +1,83 @@
+ghost use Rattle.std.specs.Prelude.{◌≡◌, ◌<◌, ◌^◌, IfOk, Some, length};
+ghost use Rattle.serde_json.specs.View.{view};
+ghost use Rattle.grant_gate.specs.Decision.{check_decision};
+ghost use Rattle.sts_core.specs.Machine.{checking, check_in};
+ghost use Rattle.sts_core.specs.Replies.{decision_reply};
+
+use crate::body::read_object;
+use crate::introspection::is_bearer;
+use crate::reply::{bad_argument, decided, no_bearer};
+use base_types::Text;
+use grant_gate::{Decision, decide};
+use iam_names::{Permission, PermissionForm, Resource, ResourceForm};
+use json_text::text_at;
+use links::State;
+use serde_json::Value;
+use std::alloc::{AllocError, Global};
+use sts_admin::name_at;
+use wif_base::{Reply, Request};
+
+/// Answers a check.
+#[tactic(auto, unfolding(crate::specs::Machine::checking))]
+pub(crate) fn check(
+    alloc: Global,
+    gate: &Text,
+    state: &State,
+    request: &Request,
+    at: u64,
+) -> Result<Reply, AllocError>
+    requires { length state.now.content.entries < 2 ^ 32 }
+    ensures { IfOk result (λ reply. reply ≡ checking gate.now state.now.content request.now at) }
+{
+    if !is_bearer(gate, &request.bearer) {
+        return no_bearer(alloc);
+    }
+    match read_object(alloc, request.body.as_slice())? {
+        Some(json) => check_object(alloc, state, &json, at),
+        None => bad_argument(alloc, "C1"),
+    }
+}
+
+fn check_object(alloc: Global, state: &State, json: &Value, at: u64) -> Result<Reply, AllocError>
+    requires { length state.now.content.entries < 2 ^ 32 }
+    ensures { IfOk result (λ reply. reply ≡ check_in state.now.content at (Some (view json.now))) }
+{
+    let Some(token) = text_at(json, "token") else {
+        return bad_argument(alloc, "C2");
+    };
+    let Some(permission) = name_at::<PermissionForm>(alloc, json, "permission")? else {
+        return bad_argument(alloc, "C3");
+    };
+    let Some(resource) = name_at::<ResourceForm>(alloc, json, "resource")? else {
+        return bad_argument(alloc, "C4");
+    };
+    let decision = decide_token(alloc, state, token, &permission, &resource, at)?;
+    decided(alloc, decision)
+}
+
+// What the token carries decides, as its link does where it was issued for one.
+fn decide_token(
+    alloc: Global,
+    state: &State,
+    token: &str,
+    permission: &Permission,
+    resource: &Resource,
+    at: u64,
+) -> Result<Decision, AllocError>
+    requires { length state.now.content.entries < 2 ^ 32 }
+    ensures { IfOk result (λ decision. decision ≡ check_decision state.now.content token.now permission.now resource.now at) }
+{
+    // Their contracts say what holds of every state.
+    let (_links, _count) = (state.links(), state.entry_count());
+    let issuer = state.issuer();
+    decide(
+        alloc,
+        state.view(),
+        state.key(),
+        issuer,
+        token,
+        permission,
+        resource,
+        at,
+    )
+}
