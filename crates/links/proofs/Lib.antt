@@ -11,4 +11,5 @@ mod Preparing
 mod Places
 pub mod Issuing
 pub mod Replays
+mod Subjects
 pub mod SourceForms

@@ -1,18 +1,11 @@
 -- What an outside token gives under a provider has its forms.
-use Rattle.std.proofs.Common.{◌≡◌, ℕ, ◌≤◌, Bool, true, false, ◌&&◌, not, List, [], ◌∷◌, length, codes, nat_lt, Option, None, Some, IfSome, option_and_then, Result, Ok, Err, IfOk, if◌then◌else◌, ℤ, refl, subst, arith}
-use Rattle.std.specs.Str.{IsUtf8, bytes_eq}
+use Rattle.std.proofs.Common.{◌≡◌, ℕ, List, length, Option, None, Some, Result, Ok, Err, IfOk, refl, subst}
 use Rattle.std.specs.List.Sorted.{IsStrictlySortedBy}
-use Rattle.std.proofs.lemmas.Bool.{and_from, not-true, not-false, ltb-true, ltb-false, le-leb}
-use Rattle.serde_json.specs.Data as json
-use Rattle.serde_json.specs.Find.{as_i64}
-use Rattle.json_text.specs.Clean.{HasUtf8, MembersHaveUtf8}
-use Rattle.json_text.specs.Forms.{has_size}
-use Rattle.cel_values.specs.declared.value.Value.{Value}
-use Rattle.cel_values.specs.Values.{value_of, value_of_number, entries_of}
+use Rattle.std.proofs.lemmas.Bool.{and_from, le-leb}
 use Rattle.wif_claims.specs.declared.claims.Claims.{Claims}
 use Rattle.wif_claims.specs.declared.claims.ClaimFault.{ClaimFault}
 use Rattle.wif_claims.specs.Payload.{claims_of}
-use Rattle.wif_claims.proofs.FormedClaims.{IsUtf8Tree, AreFormed, claims_formed}
+use Rattle.wif_claims.proofs.FormedClaims.{AreFormed, claims_formed}
 use Rattle.links.specs.declared.config.StartProvider.{StartProvider}
 use Rattle.links.specs.declared.fault.RuleCode.{RuleCode}
 use Rattle.links.specs.declared.link.Source.{Source}
@@ -20,62 +13,8 @@ use Rattle.links.specs.declared.fault.ApplyFault.{ApplyFault}
 use Rattle.links.specs.Reads.{Gives}
 use Rattle.links.specs.Exact.{IsGoodPool, IsGoodSource}
 use Rattle.links.specs.Forms.{IsFormedSource}
-use Rattle.links.specs.Sources.{◌>>=◌, opened, claimed_by, passed, first_admission_fault, value_in, value_under, text_of_value, subject_claim, subject_by, source_by, source_of_claims, source_of}
-
--- ---- the subject
-
-number_text : (o : Option ℤ) → IfSome (text_of_value (value_of_number o)) IsUtf8
-number_text None = tt
-number_text (Some integer) = tt
-
-value_text : (d : json.Data) → HasUtf8 d → IfSome (text_of_value (value_of d)) IsUtf8
-value_text json.null u = tt
-value_text (json.boolean b) u = tt
-value_text (json.number n) u = number_text (as_i64 n)
-value_text (json.string s) u = u
-value_text (json.array ds) u = tt
-value_text (json.object ms) u = tt
-
-here_or_later : (b : Bool) (here : Value) (later : Option Value) → IfSome (text_of_value here) IsUtf8 → IfSome (option_and_then text_of_value later) IsUtf8
-    → IfSome (option_and_then text_of_value (if b then Some here else later)) IsUtf8
-here_or_later true here later h l = h
-here_or_later false here later h l = l
-
-entry_text : (key : List ℕ) (ms : json.Members) → MembersHaveUtf8 ms → IfSome (option_and_then text_of_value (value_in (entries_of ms) key)) IsUtf8
-entry_text key json.no_members u = tt
-entry_text key (json.member k d ms) u = here_or_later (bytes_eq k key) (value_of d) (value_in (entries_of ms) key) (value_text d u.1) (entry_text key ms u.2)
-
-number_has_no_text : (key : List ℕ) (o : Option ℤ) → IfSome (option_and_then text_of_value (value_under (value_of_number o) key)) IsUtf8
-number_has_no_text key None = tt
-number_has_no_text key (Some integer) = tt
-
-text_under : (key : List ℕ) (d : json.Data) → HasUtf8 d → IfSome (option_and_then text_of_value (value_under (value_of d) key)) IsUtf8
-text_under key json.null u = tt
-text_under key (json.boolean b) u = tt
-text_under key (json.number n) u = number_has_no_text key (as_i64 n)
-text_under key (json.string s) u = tt
-text_under key (json.array ds) u = tt
-text_under key (json.object ms) u = entry_text key ms u
-
-subject_text : (claims : Claims) → IsUtf8Tree claims.tree → IfSome (subject_claim claims) IsUtf8
-subject_text claims is = rw is.same (text_under (codes "sub") is.from is.utf8)
-
-abbrev IsSubject : List ℕ → Type 0
-IsSubject subject = IsUtf8 subject × (has_size 1 127 subject ≡ true)
-
-sized : (subject : List ℕ) (some : Bool) (long : Bool) → nat_lt 0 (length subject) ≡ some → nat_lt 127 (length subject) ≡ long → IsUtf8 subject
-    → IfOk (subject_by (Some subject)) IsSubject
-sized subject false long is_some is_long u = rw is_some tt
-sized subject true true is_some is_long u = rw (is_some, is_long) tt
-sized subject true false is_some is_long u =
-    let low : 1 ≤ length subject = omega (arith, ltb-true 0 (length subject) is_some) in
-    rw (is_some, is_long) (u, and_from _ _ (le-leb 1 (length subject) low) (le-leb (length subject) 127 (ltb-false 127 (length subject) is_long)))
-
-subject_formed : (o : Option (List ℕ)) → IfSome o IsUtf8 → IfOk (subject_by o) IsSubject
-subject_formed None u = tt
-subject_formed (Some subject) u = sized subject (nat_lt 0 (length subject)) (nat_lt 127 (length subject)) refl refl u
-
--- ---- the source
+use Rattle.links.specs.Sources.{◌>>=◌, opened, claimed_by, passed, first_admission_fault, subject_claim, subject_by, source_by, source_of_claims, source_of}
+use Rattle.links.proofs.Subjects.{IsSubject, claims_subject}
 
 abbrev IsFormed : Source → Type 0
 IsFormed source = IsGoodSource source × IsFormedSource source
@@ -110,9 +49,10 @@ made_formed provider claims subject pool are is = (
 claims_source : (provider : StartProvider) (claims : Claims) (at : ℕ) → IsGoodPool provider.pool → AreFormed claims → IfOk (source_of_claims provider claims at) IsFormed
 unfolding source_of_claims
 claims_source provider claims at pool are =
-    let subject = subject_claim claims in
-    after_rules IsFormed (first_admission_fault provider claims at) (subject_by subject >>= (λ found. Ok (source_by provider claims found)))
-    (after_step IsSubject IsFormed (subject_by subject) (λ found. Ok (source_by provider claims found)) (subject_formed subject (subject_text claims are.tree)) (λ found is. made_formed provider claims found pool are is))
+    let found = subject_by (subject_claim claims) in
+    let next : List ℕ → Result Source RuleCode = λ subject. Ok (source_by provider claims subject) in
+    after_rules IsFormed (first_admission_fault provider claims at) (found >>= next)
+    (after_step IsSubject IsFormed found next (claims_subject claims are.tree) (λ subject is. made_formed provider claims subject pool are is))
 
 any : {X : Type 0} (r : Result X RuleCode) → IfOk r (λ _. Unit {0})
 any (Ok x) = tt

@@ -1,5 +1,5 @@
 -- What the rules of the claims say of the claims that a payload has.
-use Rattle.std.proofs.Common.{◌≡◌, ℕ, zero, suc, ◌^◌, ◌<◌, ◌≤◌, Bool, true, false, List, [], ◌∷◌, length, Option, None, Some, option_map, option_and_then, Ok, Err, IfOk, IfSome, if◌then◌else◌, codes, refl, arith}
+use Rattle.std.proofs.Common.{◌≡◌, ℕ, zero, suc, ◌^◌, ◌<◌, ◌≤◌, Bool, true, false, List, ◌∷◌, length, Option, None, Some, option_map, option_and_then, IfOk, IfSome, if◌then◌else◌, codes, refl, arith}
 use Rattle.std.specs.Bool.{⊤}
 use Rattle.std.specs.Str.{IsUtf8}
 use Rattle.std.specs.List.{AllByRecursion, list_all}
