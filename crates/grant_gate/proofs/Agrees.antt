@@ -2,7 +2,6 @@
 use Rattle.std.proofs.Common.{◌≡◌, ℕ, ◌<◌, ◌≤◌, ◌^◌, List, [], ◌∷◌, length, Bool, true, false, ◌&&◌, nat_lt, refl, sym, ap, subst, ◌∙◌}
 use Rattle.std.specs.Prelude.{Option, None, Some, Result, Ok, Err, IsUtf8}
 use Rattle.std.specs.Result.{IsOkAnd}
-use Rattle.base64.specs.GeneralPurpose.{IsBytes}
 use Rattle.allow_policy.specs.Granting.{granted, scope_allows}
 use Rattle.hmac_jws.specs.Compact.{compact}
 use Rattle.hmac_jws.specs.Verified.{first_jws_fault, payload_of, MacGood}
@@ -73,6 +72,6 @@ token_carries c n link utf8 low good =
 pub agrees : (before after : Content) (n : ℕ) (link : Link) (permission resource : List ℕ) (at : ℕ) → IsUtf8 before.issuer → n < 2 ^ 32 → IsGoodLink link
     → after.key ≡ before.key → after.issuer ≡ before.issuer
     → carried_decision after.view after.key after.issuer (token_text before (link_chain n link)) permission resource at ≡ link_decision after (link_chain n link) permission resource at
-unfolding carried_decision
+unfolding carried_decision link_decision first_denial
 agrees before after n link permission resource at utf8 low good key issuer =
     rw (key, issuer, token_carries before n link utf8 low good) (facts_agree after (link_chain n link) permission resource at)

@@ -135,7 +135,7 @@ pub record IsIssued (c : Content) (text : List ℕ) (n : ℕ) (link : Link) : Ty
   pub good : IsGoodLink link
 
 -- no link's token is the text, or one that is known
-pub IssuedOrNot : Content → List ℕ → Type 0
+abbrev pub IssuedOrNot : Content → List ℕ → Type 0
 IssuedOrNot c text = (issued_link c text ≡ None) ⊎ ((n : ℕ) × (link : Link) × IsIssued c text n link)
 
 issued_by : (c : Content) (text : List ℕ) → IsKept c → Cases c text → IssuedOrNot c text
