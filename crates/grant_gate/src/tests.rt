@@ -8,391 +8,415 @@ const KEY: [u8; 32] = [b'S'; 32];
 
 const ISSUER: &str = "https://sts.example";
 
+// The good payloads are those of Python's `json.dumps` with sorted names and no blanks.
+
+const ACCOUNT: &str =
+    "{\"exp\":9,\"iat\":3,\"iss\":\"https://sts.example\",\"jti\":\"7\",\"scope\":\"read\",\"sub\":\"serviceAccount:a@p.iam.gserviceaccount.com\",\"wif\":{\"accounts\":[],\"bounds\":[],\"pools\":[],\"scopes\":[\"read\"],\"who\":{\"account\":\"a@p.iam.gserviceaccount.com\"}}}";
+
+const OUTSIDE: &str =
+    "{\"exp\":9,\"iat\":3,\"iss\":\"https://sts.example\",\"jti\":\"7\",\"scope\":\"read\",\"sub\":\"principal://iam.googleapis.com/projects/1/locations/global/workloadIdentityPools/pool/subject/s\",\"wif\":{\"accounts\":[],\"bounds\":[],\"pools\":[\"1/pool\"],\"scopes\":[\"read\"],\"who\":{\"attributes\":{},\"groups\":[],\"pool\":\"1/pool\",\"subject\":\"s\"}}}";
+
+const DELEGATED: &str =
+    "{\"act\":{\"act\":{\"act\":{\"act\":{\"act\":{\"act\":{\"act\":{\"act\":{\"sub\":\"serviceAccount:h@p.iam.gserviceaccount.com\"},\"sub\":\"serviceAccount:g@p.iam.gserviceaccount.com\"},\"sub\":\"serviceAccount:f@p.iam.gserviceaccount.com\"},\"sub\":\"serviceAccount:e@p.iam.gserviceaccount.com\"},\"sub\":\"serviceAccount:d@p.iam.gserviceaccount.com\"},\"sub\":\"serviceAccount:c@p.iam.gserviceaccount.com\"},\"sub\":\"serviceAccount:b@p.iam.gserviceaccount.com\"},\"sub\":\"serviceAccount:a@p.iam.gserviceaccount.com\"},\"exp\":9,\"iat\":3,\"iss\":\"https://sts.example\",\"jti\":\"7\",\"scope\":\"write\",\"sub\":\"serviceAccount:a@p.iam.gserviceaccount.com\",\"wif\":{\"accounts\":[\"b@p.iam.gserviceaccount.com\",\"a@p.iam.gserviceaccount.com\"],\"bounds\":[],\"pools\":[\"1/pool\",\"22/other-pool\"],\"scopes\":[\"read write\",\"write\"],\"who\":{\"account\":\"a@p.iam.gserviceaccount.com\"}}}";
+
 fn carried_by(alloc: Global, payload: &str) -> Result<Result<TokenFacts, GateFault>, Fail> {
     let text = sign(alloc, &KEY, payload.as_bytes())?;
     Ok(carried(alloc, &KEY, ISSUER, text.as_str()))
 }
 
-// The good texts are those of Python's `json.dumps` with sorted names and no blanks.
+// The payload with the new text in place of the old one, which stands in it once.
+fn changed(alloc: Global, payload: &str, old: &str, new: &str) -> Result<Option<GateFault>, Fail> {
+    let Some((front, back)) = payload.split_once(old) else {
+        return Err(Fail::from("no such text"));
+    };
+    let payload = format!(in alloc; "{front}{new}{back}")?;
+    Ok(carried_by(alloc, payload.as_str())?.err())
+}
+
 #[test]
-fn each_payload_as_it_stands(rt: HostRuntime) -> Result<(), Fail> {
+fn payloads_as_they_stand(rt: HostRuntime) -> Result<(), Fail> {
     for (payload, want, what) in [
-        (
-            "{\"exp\":9,\"iat\":3,\"iss\":\"https://sts.example\",\"jti\":\"7\",\"scope\":\"read\",\"sub\":\"serviceAccount:a@p.iam.gserviceaccount.com\",\"wif\":{\"accounts\":[],\"bounds\":[],\"pools\":[],\"scopes\":[\"read\"],\"who\":{\"account\":\"a@p.iam.gserviceaccount.com\"}}}",
-            None,
-            "a service account",
-        ),
-        (
-            "{\"exp\":9,\"iat\":3,\"iss\":\"https://sts.example\",\"jti\":\"7\",\"scope\":\"read\",\"sub\":\"principal://iam.googleapis.com/projects/1/locations/global/workloadIdentityPools/pool/subject/s\",\"wif\":{\"accounts\":[],\"bounds\":[],\"pools\":[\"1/pool\"],\"scopes\":[\"read\"],\"who\":{\"attributes\":{},\"groups\":[],\"pool\":\"1/pool\",\"subject\":\"s\"}}}",
-            None,
-            "an outside identity",
-        ),
+        (ACCOUNT, None, "a service account"),
+        (OUTSIDE, None, "an outside identity"),
         (
             "{\"exp\":1700000900,\"iat\":1700000000,\"iss\":\"https://sts.example\",\"jti\":\"4294967295\",\"may_act\":{\"may_act\":{\"sub\":\"in\\\"ner\"},\"sub\":\"outer\"},\"scope\":\"read write\",\"sub\":\"principal://iam.googleapis.com/projects/1/locations/global/workloadIdentityPools/pool/subject/Zoë\",\"wif\":{\"accounts\":[],\"bounds\":[],\"pools\":[\"1/pool\"],\"scopes\":[\"read write\"],\"who\":{\"attributes\":{\"area\":\"x\",\"team\":\"a\\tb\",\"zone_2\":\"7\"},\"groups\":[\"one\",\"two\"],\"pool\":\"1/pool\",\"subject\":\"Zoë\"}}}",
             None,
             "every member of an outside identity",
         ),
-        (
-            "{\"act\":{\"act\":{\"act\":{\"act\":{\"act\":{\"act\":{\"act\":{\"act\":{\"sub\":\"serviceAccount:h@p.iam.gserviceaccount.com\"},\"sub\":\"serviceAccount:g@p.iam.gserviceaccount.com\"},\"sub\":\"serviceAccount:f@p.iam.gserviceaccount.com\"},\"sub\":\"serviceAccount:e@p.iam.gserviceaccount.com\"},\"sub\":\"serviceAccount:d@p.iam.gserviceaccount.com\"},\"sub\":\"serviceAccount:c@p.iam.gserviceaccount.com\"},\"sub\":\"serviceAccount:b@p.iam.gserviceaccount.com\"},\"sub\":\"serviceAccount:a@p.iam.gserviceaccount.com\"},\"exp\":9,\"iat\":3,\"iss\":\"https://sts.example\",\"jti\":\"7\",\"scope\":\"write\",\"sub\":\"serviceAccount:a@p.iam.gserviceaccount.com\",\"wif\":{\"accounts\":[\"b@p.iam.gserviceaccount.com\",\"a@p.iam.gserviceaccount.com\"],\"bounds\":[],\"pools\":[\"1/pool\",\"22/other-pool\"],\"scopes\":[\"read write\",\"write\"],\"who\":{\"account\":\"a@p.iam.gserviceaccount.com\"}}}",
-            None,
-            "8 actors",
-        ),
-        (
-            "{\"act\":{\"act\":{\"act\":{\"act\":{\"act\":{\"act\":{\"act\":{\"act\":{\"act\":{\"sub\":\"serviceAccount:i@p.iam.gserviceaccount.com\"},\"sub\":\"serviceAccount:h@p.iam.gserviceaccount.com\"},\"sub\":\"serviceAccount:g@p.iam.gserviceaccount.com\"},\"sub\":\"serviceAccount:f@p.iam.gserviceaccount.com\"},\"sub\":\"serviceAccount:e@p.iam.gserviceaccount.com\"},\"sub\":\"serviceAccount:d@p.iam.gserviceaccount.com\"},\"sub\":\"serviceAccount:c@p.iam.gserviceaccount.com\"},\"sub\":\"serviceAccount:b@p.iam.gserviceaccount.com\"},\"sub\":\"serviceAccount:a@p.iam.gserviceaccount.com\"},\"exp\":9,\"iat\":3,\"iss\":\"https://sts.example\",\"jti\":\"7\",\"scope\":\"read\",\"sub\":\"serviceAccount:a@p.iam.gserviceaccount.com\",\"wif\":{\"accounts\":[],\"bounds\":[],\"pools\":[],\"scopes\":[\"read\"],\"who\":{\"account\":\"a@p.iam.gserviceaccount.com\"}}}",
-            Some(GateFault::Claims),
-            "9 actors",
-        ),
-        (
-            "{\"exp\":9,\"iat\":3,\"iss\":\"https://sts.example\",\"jti\":\"7\",\"may_act\":{\"may_act\":{\"may_act\":{\"may_act\":{\"may_act\":{\"may_act\":{\"may_act\":{\"may_act\":{\"sub\":\"h\"},\"sub\":\"g\"},\"sub\":\"f\"},\"sub\":\"e\"},\"sub\":\"d\"},\"sub\":\"c\"},\"sub\":\"b\"},\"sub\":\"a\"},\"scope\":\"read\",\"sub\":\"serviceAccount:a@p.iam.gserviceaccount.com\",\"wif\":{\"accounts\":[],\"bounds\":[],\"pools\":[],\"scopes\":[\"read\"],\"who\":{\"account\":\"a@p.iam.gserviceaccount.com\"}}}",
-            None,
-            "8 who may act",
-        ),
-        (
-            "{\"exp\":9,\"iat\":3,\"iss\":\"https://sts.example\",\"jti\":\"7\",\"may_act\":{\"may_act\":{\"may_act\":{\"may_act\":{\"may_act\":{\"may_act\":{\"may_act\":{\"may_act\":{\"may_act\":{\"sub\":\"i\"},\"sub\":\"h\"},\"sub\":\"g\"},\"sub\":\"f\"},\"sub\":\"e\"},\"sub\":\"d\"},\"sub\":\"c\"},\"sub\":\"b\"},\"sub\":\"a\"},\"scope\":\"read\",\"sub\":\"serviceAccount:a@p.iam.gserviceaccount.com\",\"wif\":{\"accounts\":[],\"bounds\":[],\"pools\":[],\"scopes\":[\"read\"],\"who\":{\"account\":\"a@p.iam.gserviceaccount.com\"}}}",
-            Some(GateFault::Claims),
-            "9 who may act",
-        ),
-        (
-            "{\"act\":{\"sub\":\"principal://iam.googleapis.com/projects/1/locations/global/workloadIdentityPools/pool/subject/s\"},\"exp\":9,\"iat\":3,\"iss\":\"https://sts.example\",\"jti\":\"7\",\"scope\":\"read\",\"sub\":\"serviceAccount:a@p.iam.gserviceaccount.com\",\"wif\":{\"accounts\":[],\"bounds\":[],\"pools\":[],\"scopes\":[\"read\"],\"who\":{\"account\":\"a@p.iam.gserviceaccount.com\"}}}",
-            None,
-            "an actor that is a principal",
-        ),
-        (
-            "{\"act\":{\"sub\":\"principalSet://iam.googleapis.com/projects/1/locations/global/workloadIdentityPools/pool/group/g\"},\"exp\":9,\"iat\":3,\"iss\":\"https://sts.example\",\"jti\":\"7\",\"scope\":\"read\",\"sub\":\"serviceAccount:a@p.iam.gserviceaccount.com\",\"wif\":{\"accounts\":[],\"bounds\":[],\"pools\":[],\"scopes\":[\"read\"],\"who\":{\"account\":\"a@p.iam.gserviceaccount.com\"}}}",
-            Some(GateFault::Claims),
-            "an actor that is a group",
-        ),
-        (
-            "{\"act\":{\"sub\":\"a\"},\"exp\":9,\"iat\":3,\"iss\":\"https://sts.example\",\"jti\":\"7\",\"scope\":\"read\",\"sub\":\"serviceAccount:a@p.iam.gserviceaccount.com\",\"wif\":{\"accounts\":[],\"bounds\":[],\"pools\":[],\"scopes\":[\"read\"],\"who\":{\"account\":\"a@p.iam.gserviceaccount.com\"}}}",
-            Some(GateFault::Claims),
-            "an actor that is no name",
-        ),
-        (
-            "{\"exp\":9,\"iat\":3,\"iss\":\"https://sts.example\",\"jti\":\"7\",\"may_act\":{\"sub\":\"\"},\"scope\":\"read\",\"sub\":\"serviceAccount:a@p.iam.gserviceaccount.com\",\"wif\":{\"accounts\":[],\"bounds\":[],\"pools\":[],\"scopes\":[\"read\"],\"who\":{\"account\":\"a@p.iam.gserviceaccount.com\"}}}",
-            Some(GateFault::Claims),
-            "an empty name of who may act",
-        ),
-        (
-            "{\"exp\":9, \"iat\":3,\"iss\":\"https://sts.example\",\"jti\":\"7\",\"scope\":\"read\",\"sub\":\"serviceAccount:a@p.iam.gserviceaccount.com\",\"wif\":{\"accounts\":[],\"bounds\":[],\"pools\":[],\"scopes\":[\"read\"],\"who\":{\"account\":\"a@p.iam.gserviceaccount.com\"}}}",
-            Some(GateFault::Claims),
-            "a blank between members",
-        ),
-        (
-            "{\"exp\":9,\"iat\":3,\"iss\":\"https://sts.example\",\"jti\":\"7\",\"scope\":\"read\",\"sub\":\"serviceAccount:a@p.iam.gserviceaccount.com\",\"wif\":{\"accounts\":[],\"bounds\":[],\"pools\":[],\"scopes\":[\"read\"],\"who\":{\"account\":\"a@p.iam.gserviceaccount.com\"}}} ",
-            Some(GateFault::Claims),
-            "a blank behind the text",
-        ),
-        (
-            "{\"exp\":9,\"iat\":3,\"iss\":\"https://sts.example\",\"jti\":\"7\",\"scope\":\"read\",\"sub\":\"serviceAccount:a@p.iam.gserviceaccount.com\",\"wif\":{\"accounts\":[],\"bounds\":\n[],\"pools\":[],\"scopes\":[\"read\"],\"who\":{\"account\":\"a@p.iam.gserviceaccount.com\"}}}",
-            Some(GateFault::Claims),
-            "a line break inside wif",
-        ),
-        (
-            "{\"iat\":3,\"exp\":9,\"iss\":\"https://sts.example\",\"jti\":\"7\",\"scope\":\"read\",\"sub\":\"serviceAccount:a@p.iam.gserviceaccount.com\",\"wif\":{\"accounts\":[],\"bounds\":[],\"pools\":[],\"scopes\":[\"read\"],\"who\":{\"account\":\"a@p.iam.gserviceaccount.com\"}}}",
-            Some(GateFault::Claims),
-            "another order",
-        ),
-        (
-            "{\"exp\":9,\"iat\":3,\"iss\":\"https://sts.example\",\"jti\":\"7\",\"scope\":\"read\",\"sub\":\"serviceAccount:a@p.iam.gserviceaccount.com\",\"wif\":{\"bounds\":[],\"accounts\":[],\"pools\":[],\"scopes\":[\"read\"],\"who\":{\"account\":\"a@p.iam.gserviceaccount.com\"}}}",
-            Some(GateFault::Claims),
-            "another order inside wif",
-        ),
-        (
-            "{\"exp\":9,\"exp\":9,\"iat\":3,\"iss\":\"https://sts.example\",\"jti\":\"7\",\"scope\":\"read\",\"sub\":\"serviceAccount:a@p.iam.gserviceaccount.com\",\"wif\":{\"accounts\":[],\"bounds\":[],\"pools\":[],\"scopes\":[\"read\"],\"who\":{\"account\":\"a@p.iam.gserviceaccount.com\"}}}",
-            Some(GateFault::Claims),
-            "a member twice",
-        ),
-        (
-            "{\"exp\":8,\"exp\":9,\"iat\":3,\"iss\":\"https://sts.example\",\"jti\":\"7\",\"scope\":\"read\",\"sub\":\"serviceAccount:a@p.iam.gserviceaccount.com\",\"wif\":{\"accounts\":[],\"bounds\":[],\"pools\":[],\"scopes\":[\"read\"],\"who\":{\"account\":\"a@p.iam.gserviceaccount.com\"}}}",
-            Some(GateFault::Claims),
-            "a member twice, the first of them another",
-        ),
-        (
-            "{\"iat\":3,\"iss\":\"https://sts.example\",\"jti\":\"7\",\"scope\":\"read\",\"sub\":\"serviceAccount:a@p.iam.gserviceaccount.com\",\"wif\":{\"accounts\":[],\"bounds\":[],\"pools\":[],\"scopes\":[\"read\"],\"who\":{\"account\":\"a@p.iam.gserviceaccount.com\"}}}",
-            Some(GateFault::Claims),
-            "no exp",
-        ),
-        (
-            "{\"exp\":9,\"iss\":\"https://sts.example\",\"jti\":\"7\",\"scope\":\"read\",\"sub\":\"serviceAccount:a@p.iam.gserviceaccount.com\",\"wif\":{\"accounts\":[],\"bounds\":[],\"pools\":[],\"scopes\":[\"read\"],\"who\":{\"account\":\"a@p.iam.gserviceaccount.com\"}}}",
-            Some(GateFault::Claims),
-            "no iat",
-        ),
-        (
-            "{\"exp\":9,\"iat\":3,\"jti\":\"7\",\"scope\":\"read\",\"sub\":\"serviceAccount:a@p.iam.gserviceaccount.com\",\"wif\":{\"accounts\":[],\"bounds\":[],\"pools\":[],\"scopes\":[\"read\"],\"who\":{\"account\":\"a@p.iam.gserviceaccount.com\"}}}",
-            Some(GateFault::Claims),
-            "no iss",
-        ),
-        (
-            "{\"exp\":9,\"iat\":3,\"iss\":\"https://sts.example\",\"scope\":\"read\",\"sub\":\"serviceAccount:a@p.iam.gserviceaccount.com\",\"wif\":{\"accounts\":[],\"bounds\":[],\"pools\":[],\"scopes\":[\"read\"],\"who\":{\"account\":\"a@p.iam.gserviceaccount.com\"}}}",
-            Some(GateFault::Claims),
-            "no jti",
-        ),
-        (
-            "{\"exp\":9,\"iat\":3,\"iss\":\"https://sts.example\",\"jti\":\"7\",\"sub\":\"serviceAccount:a@p.iam.gserviceaccount.com\",\"wif\":{\"accounts\":[],\"bounds\":[],\"pools\":[],\"scopes\":[\"read\"],\"who\":{\"account\":\"a@p.iam.gserviceaccount.com\"}}}",
-            Some(GateFault::Claims),
-            "no scope",
-        ),
-        (
-            "{\"exp\":9,\"iat\":3,\"iss\":\"https://sts.example\",\"jti\":\"7\",\"scope\":\"read\",\"wif\":{\"accounts\":[],\"bounds\":[],\"pools\":[],\"scopes\":[\"read\"],\"who\":{\"account\":\"a@p.iam.gserviceaccount.com\"}}}",
-            Some(GateFault::Claims),
-            "no sub",
-        ),
-        (
-            "{\"exp\":9,\"iat\":3,\"iss\":\"https://sts.example\",\"jti\":\"7\",\"scope\":\"read\",\"sub\":\"serviceAccount:a@p.iam.gserviceaccount.com\",\"wif\":{\"bounds\":[],\"pools\":[],\"scopes\":[\"read\"],\"who\":{\"account\":\"a@p.iam.gserviceaccount.com\"}}}",
-            Some(GateFault::Claims),
-            "no accounts",
-        ),
-        (
-            "{\"exp\":9,\"iat\":3,\"iss\":\"https://sts.example\",\"jti\":\"7\",\"scope\":\"read\",\"sub\":\"serviceAccount:a@p.iam.gserviceaccount.com\",\"wif\":{\"accounts\":[],\"pools\":[],\"scopes\":[\"read\"],\"who\":{\"account\":\"a@p.iam.gserviceaccount.com\"}}}",
-            Some(GateFault::Claims),
-            "no bounds",
-        ),
-        (
-            "{\"exp\":9,\"iat\":3,\"iss\":\"https://sts.example\",\"jti\":\"7\",\"scope\":\"read\",\"sub\":\"serviceAccount:a@p.iam.gserviceaccount.com\",\"wif\":{\"accounts\":[],\"bounds\":[],\"scopes\":[\"read\"],\"who\":{\"account\":\"a@p.iam.gserviceaccount.com\"}}}",
-            Some(GateFault::Claims),
-            "no pools",
-        ),
-        (
-            "{\"exp\":9,\"iat\":3,\"iss\":\"https://sts.example\",\"jti\":\"7\",\"scope\":\"read\",\"sub\":\"serviceAccount:a@p.iam.gserviceaccount.com\",\"wif\":{\"accounts\":[],\"bounds\":[],\"pools\":[],\"who\":{\"account\":\"a@p.iam.gserviceaccount.com\"}}}",
-            Some(GateFault::Claims),
-            "no scopes",
-        ),
-        (
-            "{\"exp\":9,\"iat\":3,\"iss\":\"https://sts.example\",\"jti\":\"7\",\"scope\":\"read\",\"sub\":\"serviceAccount:a@p.iam.gserviceaccount.com\",\"wif\":{\"accounts\":[],\"bounds\":[],\"pools\":[],\"scopes\":[\"read\"]}}",
-            Some(GateFault::Claims),
-            "no who",
-        ),
-        (
-            "{\"exp\":9,\"iat\":3,\"iss\":\"https://sts.example\",\"jti\":\"7\",\"scope\":\"read\",\"sub\":\"serviceAccount:a@p.iam.gserviceaccount.com\"}",
-            Some(GateFault::Claims),
-            "no wif",
-        ),
-        (
-            "{\"exp\":9,\"iat\":3,\"iss\":\"https://sts.example\",\"jti\":\"7\",\"kid\":\"k\",\"scope\":\"read\",\"sub\":\"serviceAccount:a@p.iam.gserviceaccount.com\",\"wif\":{\"accounts\":[],\"bounds\":[],\"pools\":[],\"scopes\":[\"read\"],\"who\":{\"account\":\"a@p.iam.gserviceaccount.com\"}}}",
-            Some(GateFault::Claims),
-            "a member more",
-        ),
-        (
-            "{\"exp\":9,\"iat\":3,\"iss\":\"https://sts.example\",\"jti\":\"7\",\"scope\":\"read\",\"sub\":\"serviceAccount:a@p.iam.gserviceaccount.com\",\"wif\":{\"accounts\":[],\"bounds\":[],\"pools\":[],\"scopes\":[\"read\"],\"who\":{\"aaa\":1,\"account\":\"a@p.iam.gserviceaccount.com\"}}}",
-            Some(GateFault::Claims),
-            "a member more inside who",
-        ),
-        (
-            "{\"act\":{\"iss\":\"x\",\"sub\":\"serviceAccount:a@p.iam.gserviceaccount.com\"},\"exp\":9,\"iat\":3,\"iss\":\"https://sts.example\",\"jti\":\"7\",\"scope\":\"read\",\"sub\":\"serviceAccount:a@p.iam.gserviceaccount.com\",\"wif\":{\"accounts\":[],\"bounds\":[],\"pools\":[],\"scopes\":[\"read\"],\"who\":{\"account\":\"a@p.iam.gserviceaccount.com\"}}}",
-            Some(GateFault::Claims),
-            "an actor with a member more",
-        ),
-        (
-            "{\"exp\":9,\"iat\":3,\"iss\":\"https://sts.example\",\"jti\":\"7\",\"scope\":\"read write\",\"sub\":\"serviceAccount:a@p.iam.gserviceaccount.com\",\"wif\":{\"accounts\":[],\"bounds\":[],\"pools\":[],\"scopes\":[\"read write\",\"write\"],\"who\":{\"account\":\"a@p.iam.gserviceaccount.com\"}}}",
-            Some(GateFault::Claims),
-            "a scope that is the first of two",
-        ),
-        (
-            "{\"exp\":9,\"iat\":3,\"iss\":\"https://sts.example\",\"jti\":\"7\",\"scope\":\"read\",\"sub\":\"serviceAccount:b@p.iam.gserviceaccount.com\",\"wif\":{\"accounts\":[],\"bounds\":[],\"pools\":[],\"scopes\":[\"read\"],\"who\":{\"account\":\"a@p.iam.gserviceaccount.com\"}}}",
-            Some(GateFault::Claims),
-            "a name of another subject",
-        ),
-        (
-            "{\"exp\":9007199254740991,\"iat\":3,\"iss\":\"https://sts.example\",\"jti\":\"7\",\"scope\":\"read\",\"sub\":\"serviceAccount:a@p.iam.gserviceaccount.com\",\"wif\":{\"accounts\":[],\"bounds\":[],\"pools\":[],\"scopes\":[\"read\"],\"who\":{\"account\":\"a@p.iam.gserviceaccount.com\"}}}",
-            None,
-            "exp 2^53 - 1",
-        ),
-        (
-            "{\"exp\":9007199254740992,\"iat\":3,\"iss\":\"https://sts.example\",\"jti\":\"7\",\"scope\":\"read\",\"sub\":\"serviceAccount:a@p.iam.gserviceaccount.com\",\"wif\":{\"accounts\":[],\"bounds\":[],\"pools\":[],\"scopes\":[\"read\"],\"who\":{\"account\":\"a@p.iam.gserviceaccount.com\"}}}",
-            Some(GateFault::Claims),
-            "exp 2^53",
-        ),
-        (
-            "{\"exp\":9,\"iat\":9007199254740991,\"iss\":\"https://sts.example\",\"jti\":\"7\",\"scope\":\"read\",\"sub\":\"serviceAccount:a@p.iam.gserviceaccount.com\",\"wif\":{\"accounts\":[],\"bounds\":[],\"pools\":[],\"scopes\":[\"read\"],\"who\":{\"account\":\"a@p.iam.gserviceaccount.com\"}}}",
-            None,
-            "iat 2^53 - 1",
-        ),
-        (
-            "{\"exp\":9,\"iat\":9007199254740992,\"iss\":\"https://sts.example\",\"jti\":\"7\",\"scope\":\"read\",\"sub\":\"serviceAccount:a@p.iam.gserviceaccount.com\",\"wif\":{\"accounts\":[],\"bounds\":[],\"pools\":[],\"scopes\":[\"read\"],\"who\":{\"account\":\"a@p.iam.gserviceaccount.com\"}}}",
-            Some(GateFault::Claims),
-            "iat 2^53",
-        ),
-        (
-            "{\"exp\":-9,\"iat\":3,\"iss\":\"https://sts.example\",\"jti\":\"7\",\"scope\":\"read\",\"sub\":\"serviceAccount:a@p.iam.gserviceaccount.com\",\"wif\":{\"accounts\":[],\"bounds\":[],\"pools\":[],\"scopes\":[\"read\"],\"who\":{\"account\":\"a@p.iam.gserviceaccount.com\"}}}",
-            Some(GateFault::Claims),
-            "exp below 0",
-        ),
-        (
-            "{\"exp\":9.0,\"iat\":3,\"iss\":\"https://sts.example\",\"jti\":\"7\",\"scope\":\"read\",\"sub\":\"serviceAccount:a@p.iam.gserviceaccount.com\",\"wif\":{\"accounts\":[],\"bounds\":[],\"pools\":[],\"scopes\":[\"read\"],\"who\":{\"account\":\"a@p.iam.gserviceaccount.com\"}}}",
-            Some(GateFault::Claims),
-            "exp with a fraction",
-        ),
-        (
-            "{\"exp\":9e0,\"iat\":3,\"iss\":\"https://sts.example\",\"jti\":\"7\",\"scope\":\"read\",\"sub\":\"serviceAccount:a@p.iam.gserviceaccount.com\",\"wif\":{\"accounts\":[],\"bounds\":[],\"pools\":[],\"scopes\":[\"read\"],\"who\":{\"account\":\"a@p.iam.gserviceaccount.com\"}}}",
-            Some(GateFault::Claims),
-            "exp with an exponent",
-        ),
-        (
-            "{\"exp\":\"9\",\"iat\":3,\"iss\":\"https://sts.example\",\"jti\":\"7\",\"scope\":\"read\",\"sub\":\"serviceAccount:a@p.iam.gserviceaccount.com\",\"wif\":{\"accounts\":[],\"bounds\":[],\"pools\":[],\"scopes\":[\"read\"],\"who\":{\"account\":\"a@p.iam.gserviceaccount.com\"}}}",
-            Some(GateFault::Claims),
-            "exp as a text",
-        ),
-        (
-            "{\"exp\":9,\"iat\":3,\"iss\":\"https://sts.exampla\",\"jti\":\"7\",\"scope\":\"read\",\"sub\":\"serviceAccount:a@p.iam.gserviceaccount.com\",\"wif\":{\"accounts\":[],\"bounds\":[],\"pools\":[],\"scopes\":[\"read\"],\"who\":{\"account\":\"a@p.iam.gserviceaccount.com\"}}}",
-            Some(GateFault::Claims),
-            "another issuer",
-        ),
-        (
-            "{\"exp\":9,\"iat\":3,\"iss\":\"https://sts.example\",\"jti\":\"7\",\"scope\":\"read\",\"sub\":\"serviceAccount:a@p.iam.gserviceaccount.com\",\"wif\":{\"accounts\":[],\"bounds\":[[]],\"pools\":[],\"scopes\":[\"read\"],\"who\":{\"account\":\"a@p.iam.gserviceaccount.com\"}}}",
-            Some(GateFault::Claims),
-            "a boundary",
-        ),
-        (
-            "{\"exp\":9,\"iat\":3,\"iss\":\"https://sts.example\",\"jti\":\"7\",\"scope\":\"read\",\"sub\":\"serviceAccount:a@p.iam.gserviceaccount.com\",\"wif\":{\"accounts\":[],\"bounds\":null,\"pools\":[],\"scopes\":[\"read\"],\"who\":{\"account\":\"a@p.iam.gserviceaccount.com\"}}}",
-            Some(GateFault::Claims),
-            "bounds null",
-        ),
-        (
-            "{\"exp\":9,\"iat\":3,\"iss\":\"https://sts.example\",\"jti\":\"7\",\"scope\":\"\",\"sub\":\"serviceAccount:a@p.iam.gserviceaccount.com\",\"wif\":{\"accounts\":[],\"bounds\":[],\"pools\":[],\"scopes\":[],\"who\":{\"account\":\"a@p.iam.gserviceaccount.com\"}}}",
-            Some(GateFault::Claims),
-            "no scopes",
-        ),
-        (
-            "{\"exp\":9,\"iat\":3,\"iss\":\"https://sts.example\",\"jti\":\"7\",\"scope\":\"\",\"sub\":\"serviceAccount:a@p.iam.gserviceaccount.com\",\"wif\":{\"accounts\":[],\"bounds\":[],\"pools\":[],\"scopes\":[\"\"],\"who\":{\"account\":\"a@p.iam.gserviceaccount.com\"}}}",
-            Some(GateFault::Claims),
-            "no word in a scope",
-        ),
-        (
-            "{\"exp\":9,\"iat\":3,\"iss\":\"https://sts.example\",\"jti\":\"7\",\"scope\":\"a b c d e f g h i j k l m n o p\",\"sub\":\"serviceAccount:a@p.iam.gserviceaccount.com\",\"wif\":{\"accounts\":[],\"bounds\":[],\"pools\":[],\"scopes\":[\"a b c d e f g h i j k l m n o p\"],\"who\":{\"account\":\"a@p.iam.gserviceaccount.com\"}}}",
-            None,
-            "16 words",
-        ),
-        (
-            "{\"exp\":9,\"iat\":3,\"iss\":\"https://sts.example\",\"jti\":\"7\",\"scope\":\"a b c d e f g h i j k l m n o p q\",\"sub\":\"serviceAccount:a@p.iam.gserviceaccount.com\",\"wif\":{\"accounts\":[],\"bounds\":[],\"pools\":[],\"scopes\":[\"a b c d e f g h i j k l m n o p q\"],\"who\":{\"account\":\"a@p.iam.gserviceaccount.com\"}}}",
-            Some(GateFault::Claims),
-            "17 words",
-        ),
-        (
-            "{\"exp\":9,\"iat\":3,\"iss\":\"https://sts.example\",\"jti\":\"7\",\"scope\":\"a\",\"sub\":\"serviceAccount:a@p.iam.gserviceaccount.com\",\"wif\":{\"accounts\":[],\"bounds\":[],\"pools\":[],\"scopes\":[\"a b c d e f g h i j k l m n o p q\",\"a\"],\"who\":{\"account\":\"a@p.iam.gserviceaccount.com\"}}}",
-            Some(GateFault::Claims),
-            "17 words in the first scope",
-        ),
-        (
-            "{\"exp\":9,\"iat\":3,\"iss\":\"https://sts.example\",\"jti\":\"7\",\"scope\":\"a  b\",\"sub\":\"serviceAccount:a@p.iam.gserviceaccount.com\",\"wif\":{\"accounts\":[],\"bounds\":[],\"pools\":[],\"scopes\":[\"a  b\"],\"who\":{\"account\":\"a@p.iam.gserviceaccount.com\"}}}",
-            Some(GateFault::Claims),
-            "two spaces between words",
-        ),
-        (
-            "{\"exp\":9,\"iat\":3,\"iss\":\"https://sts.example\",\"jti\":\"7\",\"scope\":\"wwwwwwwwwwwwwwwwwwwwwwwwwwwwwwwwwwwwwwwwwwwwwwwwwwwwwwwwwwwwwwwwwwwwwwwwwwwwwwwwwwwwwwwwwwwwwwwwwwwwwwwwwwwwwwwwwwwwwwwwwwwwwwww\",\"sub\":\"serviceAccount:a@p.iam.gserviceaccount.com\",\"wif\":{\"accounts\":[],\"bounds\":[],\"pools\":[],\"scopes\":[\"wwwwwwwwwwwwwwwwwwwwwwwwwwwwwwwwwwwwwwwwwwwwwwwwwwwwwwwwwwwwwwwwwwwwwwwwwwwwwwwwwwwwwwwwwwwwwwwwwwwwwwwwwwwwwwwwwwwwwwwwwwwwwwww\"],\"who\":{\"account\":\"a@p.iam.gserviceaccount.com\"}}}",
-            None,
-            "a word of 128 bytes",
-        ),
-        (
-            "{\"exp\":9,\"iat\":3,\"iss\":\"https://sts.example\",\"jti\":\"7\",\"scope\":\"wwwwwwwwwwwwwwwwwwwwwwwwwwwwwwwwwwwwwwwwwwwwwwwwwwwwwwwwwwwwwwwwwwwwwwwwwwwwwwwwwwwwwwwwwwwwwwwwwwwwwwwwwwwwwwwwwwwwwwwwwwwwwwwww\",\"sub\":\"serviceAccount:a@p.iam.gserviceaccount.com\",\"wif\":{\"accounts\":[],\"bounds\":[],\"pools\":[],\"scopes\":[\"wwwwwwwwwwwwwwwwwwwwwwwwwwwwwwwwwwwwwwwwwwwwwwwwwwwwwwwwwwwwwwwwwwwwwwwwwwwwwwwwwwwwwwwwwwwwwwwwwwwwwwwwwwwwwwwwwwwwwwwwwwwwwwwww\"],\"who\":{\"account\":\"a@p.iam.gserviceaccount.com\"}}}",
-            Some(GateFault::Claims),
-            "a word of 129 bytes",
-        ),
-        (
-            "{\"exp\":9,\"iat\":3,\"iss\":\"https://sts.example\",\"jti\":\"0\",\"scope\":\"read\",\"sub\":\"serviceAccount:a@p.iam.gserviceaccount.com\",\"wif\":{\"accounts\":[],\"bounds\":[],\"pools\":[],\"scopes\":[\"read\"],\"who\":{\"account\":\"a@p.iam.gserviceaccount.com\"}}}",
-            None,
-            "jti 0",
-        ),
-        (
-            "{\"exp\":9,\"iat\":3,\"iss\":\"https://sts.example\",\"jti\":\"00\",\"scope\":\"read\",\"sub\":\"serviceAccount:a@p.iam.gserviceaccount.com\",\"wif\":{\"accounts\":[],\"bounds\":[],\"pools\":[],\"scopes\":[\"read\"],\"who\":{\"account\":\"a@p.iam.gserviceaccount.com\"}}}",
-            Some(GateFault::Claims),
-            "jti 00",
-        ),
-        (
-            "{\"exp\":9,\"iat\":3,\"iss\":\"https://sts.example\",\"jti\":\"07\",\"scope\":\"read\",\"sub\":\"serviceAccount:a@p.iam.gserviceaccount.com\",\"wif\":{\"accounts\":[],\"bounds\":[],\"pools\":[],\"scopes\":[\"read\"],\"who\":{\"account\":\"a@p.iam.gserviceaccount.com\"}}}",
-            Some(GateFault::Claims),
-            "jti 07",
-        ),
-        (
-            "{\"exp\":9,\"iat\":3,\"iss\":\"https://sts.example\",\"jti\":\"4294967296\",\"scope\":\"read\",\"sub\":\"serviceAccount:a@p.iam.gserviceaccount.com\",\"wif\":{\"accounts\":[],\"bounds\":[],\"pools\":[],\"scopes\":[\"read\"],\"who\":{\"account\":\"a@p.iam.gserviceaccount.com\"}}}",
-            Some(GateFault::Claims),
-            "jti 2^32",
-        ),
-        (
-            "{\"exp\":9,\"iat\":3,\"iss\":\"https://sts.example\",\"jti\":\"+7\",\"scope\":\"read\",\"sub\":\"serviceAccount:a@p.iam.gserviceaccount.com\",\"wif\":{\"accounts\":[],\"bounds\":[],\"pools\":[],\"scopes\":[\"read\"],\"who\":{\"account\":\"a@p.iam.gserviceaccount.com\"}}}",
-            Some(GateFault::Claims),
-            "jti with a sign",
-        ),
-        (
-            "{\"exp\":9,\"iat\":3,\"iss\":\"https://sts.example\",\"jti\":\"a\",\"scope\":\"read\",\"sub\":\"serviceAccount:a@p.iam.gserviceaccount.com\",\"wif\":{\"accounts\":[],\"bounds\":[],\"pools\":[],\"scopes\":[\"read\"],\"who\":{\"account\":\"a@p.iam.gserviceaccount.com\"}}}",
-            Some(GateFault::Claims),
-            "jti with a letter",
-        ),
-        (
-            "{\"exp\":9,\"iat\":3,\"iss\":\"https://sts.example\",\"jti\":\"\",\"scope\":\"read\",\"sub\":\"serviceAccount:a@p.iam.gserviceaccount.com\",\"wif\":{\"accounts\":[],\"bounds\":[],\"pools\":[],\"scopes\":[\"read\"],\"who\":{\"account\":\"a@p.iam.gserviceaccount.com\"}}}",
-            Some(GateFault::Claims),
-            "jti empty",
-        ),
-        (
-            "{\"exp\":9,\"iat\":3,\"iss\":\"https://sts.example\",\"jti\":7,\"scope\":\"read\",\"sub\":\"serviceAccount:a@p.iam.gserviceaccount.com\",\"wif\":{\"accounts\":[],\"bounds\":[],\"pools\":[],\"scopes\":[\"read\"],\"who\":{\"account\":\"a@p.iam.gserviceaccount.com\"}}}",
-            Some(GateFault::Claims),
-            "jti a number",
-        ),
-        (
-            "{\"exp\":9,\"iat\":3,\"iss\":\"https://sts.example\",\"jti\":\"7\",\"scope\":\"read\",\"sub\":\"serviceAccount:a@p.iam.gserviceaccount.com\",\"wif\":{\"accounts\":[],\"bounds\":[],\"pools\":[],\"scopes\":[\"read\"],\"who\":{\"account\":\"\\u0061@p.iam.gserviceaccount.com\"}}}",
-            Some(GateFault::Claims),
-            "a letter escaped",
-        ),
-        (
-            "{\"exp\":9,\"iat\":3,\"iss\":\"https:\\/\\/sts.example\",\"jti\":\"7\",\"scope\":\"read\",\"sub\":\"serviceAccount:a@p.iam.gserviceaccount.com\",\"wif\":{\"accounts\":[],\"bounds\":[],\"pools\":[],\"scopes\":[\"read\"],\"who\":{\"account\":\"a@p.iam.gserviceaccount.com\"}}}",
-            Some(GateFault::Claims),
-            "a slash escaped",
-        ),
-        (
-            "{\"exp\":9,\"iat\":3,\"iss\":\"https://sts.example\",\"jti\":\"7\",\"scope\":\"read\",\"sub\":\"serviceAccount:A@p.iam.gserviceaccount.com\",\"wif\":{\"accounts\":[],\"bounds\":[],\"pools\":[],\"scopes\":[\"read\"],\"who\":{\"account\":\"A@p.iam.gserviceaccount.com\"}}}",
-            Some(GateFault::Claims),
-            "an account of another form",
-        ),
-        (
-            "{\"exp\":9,\"iat\":3,\"iss\":\"https://sts.example\",\"jti\":\"7\",\"scope\":\"read\",\"sub\":\"serviceAccount:a@p.iam.gserviceaccount.com\",\"wif\":{\"accounts\":[\"a@p\"],\"bounds\":[],\"pools\":[],\"scopes\":[\"read\"],\"who\":{\"account\":\"a@p.iam.gserviceaccount.com\"}}}",
-            Some(GateFault::Claims),
-            "an account of another form on the way",
-        ),
-        (
-            "{\"exp\":9,\"iat\":3,\"iss\":\"https://sts.example\",\"jti\":\"7\",\"scope\":\"read\",\"sub\":\"serviceAccount:a@p.iam.gserviceaccount.com\",\"wif\":{\"accounts\":[],\"bounds\":[],\"pools\":[\"01/pool\"],\"scopes\":[\"read\"],\"who\":{\"account\":\"a@p.iam.gserviceaccount.com\"}}}",
-            Some(GateFault::Claims),
-            "a pool of another form",
-        ),
-        (
-            "{\"exp\":9,\"iat\":3,\"iss\":\"https://sts.example\",\"jti\":\"7\",\"scope\":\"read\",\"sub\":\"principal://iam.googleapis.com/projects/1/locations/global/workloadIdentityPools/pool/subject/sssssssssssssssssssssssssssssssssssssssssssssssssssssssssssssssssssssssssssssssssssssssssssssssssssssssssssssssssssssssssssssss\",\"wif\":{\"accounts\":[],\"bounds\":[],\"pools\":[\"1/pool\"],\"scopes\":[\"read\"],\"who\":{\"attributes\":{},\"groups\":[],\"pool\":\"1/pool\",\"subject\":\"sssssssssssssssssssssssssssssssssssssssssssssssssssssssssssssssssssssssssssssssssssssssssssssssssssssssssssssssssssssssssssssss\"}}}",
-            None,
-            "a subject of 127 bytes",
-        ),
-        (
-            "{\"exp\":9,\"iat\":3,\"iss\":\"https://sts.example\",\"jti\":\"7\",\"scope\":\"read\",\"sub\":\"principal://iam.googleapis.com/projects/1/locations/global/workloadIdentityPools/pool/subject/ssssssssssssssssssssssssssssssssssssssssssssssssssssssssssssssssssssssssssssssssssssssssssssssssssssssssssssssssssssssssssssssss\",\"wif\":{\"accounts\":[],\"bounds\":[],\"pools\":[\"1/pool\"],\"scopes\":[\"read\"],\"who\":{\"attributes\":{},\"groups\":[],\"pool\":\"1/pool\",\"subject\":\"ssssssssssssssssssssssssssssssssssssssssssssssssssssssssssssssssssssssssssssssssssssssssssssssssssssssssssssssssssssssssssssssss\"}}}",
-            Some(GateFault::Claims),
-            "a subject of 128 bytes",
-        ),
-        (
-            "{\"exp\":9,\"iat\":3,\"iss\":\"https://sts.example\",\"jti\":\"7\",\"scope\":\"read\",\"sub\":\"principal://iam.googleapis.com/projects/1/locations/global/workloadIdentityPools/pool/subject/s\",\"wif\":{\"accounts\":[],\"bounds\":[],\"pools\":[\"1/pool\"],\"scopes\":[\"read\"],\"who\":{\"attributes\":{},\"groups\":[\"\"],\"pool\":\"1/pool\",\"subject\":\"s\"}}}",
-            Some(GateFault::Claims),
-            "an empty group",
-        ),
-        (
-            "{\"exp\":9,\"iat\":3,\"iss\":\"https://sts.example\",\"jti\":\"7\",\"scope\":\"read\",\"sub\":\"principal://iam.googleapis.com/projects/1/locations/global/workloadIdentityPools/pool/subject/s\",\"wif\":{\"accounts\":[],\"bounds\":[],\"pools\":[\"1/pool\"],\"scopes\":[\"read\"],\"who\":{\"attributes\":{\"Team\":\"x\"},\"groups\":[],\"pool\":\"1/pool\",\"subject\":\"s\"}}}",
-            Some(GateFault::Claims),
-            "an attribute name with a capital",
-        ),
-        (
-            "{\"exp\":9,\"iat\":3,\"iss\":\"https://sts.example\",\"jti\":\"7\",\"scope\":\"read\",\"sub\":\"principal://iam.googleapis.com/projects/1/locations/global/workloadIdentityPools/pool/subject/s\",\"wif\":{\"accounts\":[],\"bounds\":[],\"pools\":[\"1/pool\"],\"scopes\":[\"read\"],\"who\":{\"attributes\":{\"team\":\"\"},\"groups\":[],\"pool\":\"1/pool\",\"subject\":\"s\"}}}",
-            Some(GateFault::Claims),
-            "an empty attribute value",
-        ),
-        (
-            "{\"exp\":9,\"iat\":3,\"iss\":\"https://sts.example\",\"jti\":\"7\",\"scope\":\"read\",\"sub\":\"principal://iam.googleapis.com/projects/1/locations/global/workloadIdentityPools/pool/subject/s\",\"wif\":{\"accounts\":[],\"bounds\":[],\"pools\":[\"1/pool\"],\"scopes\":[\"read\"],\"who\":{\"attributes\":{\"b\":\"2\",\"a\":\"1\"},\"groups\":[],\"pool\":\"1/pool\",\"subject\":\"s\"}}}",
-            Some(GateFault::Claims),
-            "attributes in another order",
-        ),
-        (
-            "{\"exp\":9,\"iat\":3,\"iss\":\"https://sts.example\",\"jti\":\"7\",\"scope\":\"read\",\"sub\":\"principal://iam.googleapis.com/projects/1/locations/global/workloadIdentityPools/pool/subject/s\",\"wif\":{\"accounts\":[],\"bounds\":[],\"pools\":[\"1/pool\"],\"scopes\":[\"read\"],\"who\":{\"account\":\"a@p.iam.gserviceaccount.com\",\"attributes\":{},\"groups\":[],\"pool\":\"1/pool\",\"subject\":\"s\"}}}",
-            Some(GateFault::Claims),
-            "both an account and a subject",
-        ),
+        (DELEGATED, None, "8 actors"),
         ("", Some(GateFault::Claims), "no text"),
         ("{", Some(GateFault::Claims), "no JSON"),
         ("[]", Some(GateFault::Claims), "an array"),
         ("null", Some(GateFault::Claims), "null"),
     ] {
         assert_eq!(rt; carried_by(rt.alloc(), payload)?.err(), want, "{what}");
+    }
+    Ok(())
+}
+
+#[test]
+fn changes_of_an_account(rt: HostRuntime) -> Result<(), Fail> {
+    for (old, new, want, what) in [
+        (
+            "{\"exp",
+            "{\"act\":{\"act\":{\"act\":{\"act\":{\"act\":{\"act\":{\"act\":{\"act\":{\"act\":{\"sub\":\"serviceAccount:i@p.iam.gserviceaccount.com\"},\"sub\":\"serviceAccount:h@p.iam.gserviceaccount.com\"},\"sub\":\"serviceAccount:g@p.iam.gserviceaccount.com\"},\"sub\":\"serviceAccount:f@p.iam.gserviceaccount.com\"},\"sub\":\"serviceAccount:e@p.iam.gserviceaccount.com\"},\"sub\":\"serviceAccount:d@p.iam.gserviceaccount.com\"},\"sub\":\"serviceAccount:c@p.iam.gserviceaccount.com\"},\"sub\":\"serviceAccount:b@p.iam.gserviceaccount.com\"},\"sub\":\"serviceAccount:a@p.iam.gserviceaccount.com\"},\"exp",
+            Some(GateFault::Claims),
+            "9 actors",
+        ),
+        (
+            "7\",\"scope",
+            "7\",\"may_act\":{\"may_act\":{\"may_act\":{\"may_act\":{\"may_act\":{\"may_act\":{\"may_act\":{\"may_act\":{\"sub\":\"h\"},\"sub\":\"g\"},\"sub\":\"f\"},\"sub\":\"e\"},\"sub\":\"d\"},\"sub\":\"c\"},\"sub\":\"b\"},\"sub\":\"a\"},\"scope",
+            None,
+            "8 who may act",
+        ),
+        (
+            "7\",\"scope",
+            "7\",\"may_act\":{\"may_act\":{\"may_act\":{\"may_act\":{\"may_act\":{\"may_act\":{\"may_act\":{\"may_act\":{\"may_act\":{\"sub\":\"i\"},\"sub\":\"h\"},\"sub\":\"g\"},\"sub\":\"f\"},\"sub\":\"e\"},\"sub\":\"d\"},\"sub\":\"c\"},\"sub\":\"b\"},\"sub\":\"a\"},\"scope",
+            Some(GateFault::Claims),
+            "9 who may act",
+        ),
+        (
+            "{\"exp",
+            "{\"act\":{\"sub\":\"principal://iam.googleapis.com/projects/1/locations/global/workloadIdentityPools/pool/subject/s\"},\"exp",
+            None,
+            "an actor that is a principal",
+        ),
+        (
+            "{\"exp",
+            "{\"act\":{\"sub\":\"principalSet://iam.googleapis.com/projects/1/locations/global/workloadIdentityPools/pool/group/g\"},\"exp",
+            Some(GateFault::Claims),
+            "an actor that is a group",
+        ),
+        (
+            "{\"exp",
+            "{\"act\":{\"sub\":\"a\"},\"exp",
+            Some(GateFault::Claims),
+            "an actor that is no name",
+        ),
+        (
+            "7\",\"scope",
+            "7\",\"may_act\":{\"sub\":\"\"},\"scope",
+            Some(GateFault::Claims),
+            "an empty name of who may act",
+        ),
+        (
+            "9,",
+            "9, ",
+            Some(GateFault::Claims),
+            "a blank between members",
+        ),
+        (
+            "}}}",
+            "}}} ",
+            Some(GateFault::Claims),
+            "a blank behind the text",
+        ),
+        (
+            "bounds\":",
+            "bounds\":\n",
+            Some(GateFault::Claims),
+            "a line break inside wif",
+        ),
+        (
+            "exp\":9,\"iat\":3",
+            "iat\":3,\"exp\":9",
+            Some(GateFault::Claims),
+            "another order",
+        ),
+        (
+            "accounts\":[],\"bounds",
+            "bounds\":[],\"accounts",
+            Some(GateFault::Claims),
+            "another order inside wif",
+        ),
+        (
+            "9,\"iat",
+            "9,\"exp\":9,\"iat",
+            Some(GateFault::Claims),
+            "a member twice",
+        ),
+        (
+            "exp\":9",
+            "exp\":8,\"exp\":9",
+            Some(GateFault::Claims),
+            "a member twice, the first of them another",
+        ),
+        ("exp\":9,\"iat", "iat", Some(GateFault::Claims), "no exp"),
+        ("iat\":3,\"iss", "iss", Some(GateFault::Claims), "no iat"),
+        (
+            "iss\":\"https://sts.example\",\"jti",
+            "jti",
+            Some(GateFault::Claims),
+            "no iss",
+        ),
+        (
+            "jti\":\"7\",\"scope",
+            "scope",
+            Some(GateFault::Claims),
+            "no jti",
+        ),
+        (
+            "scope\":\"read\",\"sub",
+            "sub",
+            Some(GateFault::Claims),
+            "no scope",
+        ),
+        (
+            "sub\":\"serviceAccount:a@p.iam.gserviceaccount.com\",\"wif",
+            "wif",
+            Some(GateFault::Claims),
+            "no sub",
+        ),
+        (
+            "accounts\":[],\"bounds",
+            "bounds",
+            Some(GateFault::Claims),
+            "no accounts",
+        ),
+        (
+            "bounds\":[],\"pools",
+            "pools",
+            Some(GateFault::Claims),
+            "no bounds",
+        ),
+        (
+            "pools\":[],\"scopes",
+            "scopes",
+            Some(GateFault::Claims),
+            "no pools",
+        ),
+        (
+            "scopes\":[\"read\"],\"who",
+            "who",
+            Some(GateFault::Claims),
+            "no scopes",
+        ),
+        (
+            ",\"who\":{\"account\":\"a@p.iam.gserviceaccount.com\"}",
+            "",
+            Some(GateFault::Claims),
+            "no who",
+        ),
+        (
+            ",\"wif\":{\"accounts\":[],\"bounds\":[],\"pools\":[],\"scopes\":[\"read\"],\"who\":{\"account\":\"a@p.iam.gserviceaccount.com\"}}",
+            "",
+            Some(GateFault::Claims),
+            "no wif",
+        ),
+        (
+            "7\",\"scope",
+            "7\",\"kid\":\"k\",\"scope",
+            Some(GateFault::Claims),
+            "a member more",
+        ),
+        (
+            "who\":{\"account",
+            "who\":{\"aaa\":1,\"account",
+            Some(GateFault::Claims),
+            "a member more inside who",
+        ),
+        (
+            "{\"exp",
+            "{\"act\":{\"iss\":\"x\",\"sub\":\"serviceAccount:a@p.iam.gserviceaccount.com\"},\"exp",
+            Some(GateFault::Claims),
+            "an actor with a member more",
+        ),
+        (
+            "read\",\"sub\":\"serviceAccount:a@p.iam.gserviceaccount.com\",\"wif\":{\"accounts\":[],\"bounds\":[],\"pools\":[],\"scopes\":[\"read",
+            "read write\",\"sub\":\"serviceAccount:a@p.iam.gserviceaccount.com\",\"wif\":{\"accounts\":[],\"bounds\":[],\"pools\":[],\"scopes\":[\"read write\",\"write",
+            Some(GateFault::Claims),
+            "a scope that is the first of two",
+        ),
+        (
+            "serviceAccount:a",
+            "serviceAccount:b",
+            Some(GateFault::Claims),
+            "a name of another subject",
+        ),
+    ] {
+        assert_eq!(rt; changed(rt.alloc(), ACCOUNT, old, new)?, want, "{what}");
+    }
+    Ok(())
+}
+
+#[test]
+fn further_changes_of_an_account(rt: HostRuntime) -> Result<(), Fail> {
+    for (old, new, want, what) in [
+        ("9", "9007199254740991", None, "exp 2^53 - 1"),
+        ("9", "9007199254740992", Some(GateFault::Claims), "exp 2^53"),
+        ("3", "9007199254740991", None, "iat 2^53 - 1"),
+        ("3", "9007199254740992", Some(GateFault::Claims), "iat 2^53"),
+        (
+            "exp\":9",
+            "exp\":-9",
+            Some(GateFault::Claims),
+            "exp below 0",
+        ),
+        ("9", "9.0", Some(GateFault::Claims), "exp with a fraction"),
+        ("9", "9e0", Some(GateFault::Claims), "exp with an exponent"),
+        ("9", "\"9\"", Some(GateFault::Claims), "exp as a text"),
+        (
+            "example",
+            "exampla",
+            Some(GateFault::Claims),
+            "another issuer",
+        ),
+        (
+            "bounds\":[",
+            "bounds\":[[]",
+            Some(GateFault::Claims),
+            "a boundary",
+        ),
+        (
+            "bounds\":[]",
+            "bounds\":null",
+            Some(GateFault::Claims),
+            "bounds null",
+        ),
+        (
+            "read\",\"sub\":\"serviceAccount:a@p.iam.gserviceaccount.com\",\"wif\":{\"accounts\":[],\"bounds\":[],\"pools\":[],\"scopes\":[\"read\"",
+            "\",\"sub\":\"serviceAccount:a@p.iam.gserviceaccount.com\",\"wif\":{\"accounts\":[],\"bounds\":[],\"pools\":[],\"scopes\":[",
+            Some(GateFault::Claims),
+            "no scopes",
+        ),
+        (
+            "read\",\"sub\":\"serviceAccount:a@p.iam.gserviceaccount.com\",\"wif\":{\"accounts\":[],\"bounds\":[],\"pools\":[],\"scopes\":[\"read",
+            "\",\"sub\":\"serviceAccount:a@p.iam.gserviceaccount.com\",\"wif\":{\"accounts\":[],\"bounds\":[],\"pools\":[],\"scopes\":[\"",
+            Some(GateFault::Claims),
+            "no word in a scope",
+        ),
+        (
+            "read\",\"sub\":\"serviceAccount:a@p.iam.gserviceaccount.com\",\"wif\":{\"accounts\":[],\"bounds\":[],\"pools\":[],\"scopes\":[\"read",
+            "a b c d e f g h i j k l m n o p\",\"sub\":\"serviceAccount:a@p.iam.gserviceaccount.com\",\"wif\":{\"accounts\":[],\"bounds\":[],\"pools\":[],\"scopes\":[\"a b c d e f g h i j k l m n o p",
+            None,
+            "16 words",
+        ),
+        (
+            "read\",\"sub\":\"serviceAccount:a@p.iam.gserviceaccount.com\",\"wif\":{\"accounts\":[],\"bounds\":[],\"pools\":[],\"scopes\":[\"read",
+            "a b c d e f g h i j k l m n o p q\",\"sub\":\"serviceAccount:a@p.iam.gserviceaccount.com\",\"wif\":{\"accounts\":[],\"bounds\":[],\"pools\":[],\"scopes\":[\"a b c d e f g h i j k l m n o p q",
+            Some(GateFault::Claims),
+            "17 words",
+        ),
+        (
+            "read\",\"sub\":\"serviceAccount:a@p.iam.gserviceaccount.com\",\"wif\":{\"accounts\":[],\"bounds\":[],\"pools\":[],\"scopes\":[\"read",
+            "a\",\"sub\":\"serviceAccount:a@p.iam.gserviceaccount.com\",\"wif\":{\"accounts\":[],\"bounds\":[],\"pools\":[],\"scopes\":[\"a b c d e f g h i j k l m n o p q\",\"a",
+            Some(GateFault::Claims),
+            "17 words in the first scope",
+        ),
+        (
+            "read\",\"sub\":\"serviceAccount:a@p.iam.gserviceaccount.com\",\"wif\":{\"accounts\":[],\"bounds\":[],\"pools\":[],\"scopes\":[\"read",
+            "a  b\",\"sub\":\"serviceAccount:a@p.iam.gserviceaccount.com\",\"wif\":{\"accounts\":[],\"bounds\":[],\"pools\":[],\"scopes\":[\"a  b",
+            Some(GateFault::Claims),
+            "two spaces between words",
+        ),
+        (
+            "read\",\"sub\":\"serviceAccount:a@p.iam.gserviceaccount.com\",\"wif\":{\"accounts\":[],\"bounds\":[],\"pools\":[],\"scopes\":[\"read",
+            "wwwwwwwwwwwwwwwwwwwwwwwwwwwwwwwwwwwwwwwwwwwwwwwwwwwwwwwwwwwwwwwwwwwwwwwwwwwwwwwwwwwwwwwwwwwwwwwwwwwwwwwwwwwwwwwwwwwwwwwwwwwwwwww\",\"sub\":\"serviceAccount:a@p.iam.gserviceaccount.com\",\"wif\":{\"accounts\":[],\"bounds\":[],\"pools\":[],\"scopes\":[\"wwwwwwwwwwwwwwwwwwwwwwwwwwwwwwwwwwwwwwwwwwwwwwwwwwwwwwwwwwwwwwwwwwwwwwwwwwwwwwwwwwwwwwwwwwwwwwwwwwwwwwwwwwwwwwwwwwwwwwwwwwwwwwww",
+            None,
+            "a word of 128 bytes",
+        ),
+        (
+            "read\",\"sub\":\"serviceAccount:a@p.iam.gserviceaccount.com\",\"wif\":{\"accounts\":[],\"bounds\":[],\"pools\":[],\"scopes\":[\"read",
+            "wwwwwwwwwwwwwwwwwwwwwwwwwwwwwwwwwwwwwwwwwwwwwwwwwwwwwwwwwwwwwwwwwwwwwwwwwwwwwwwwwwwwwwwwwwwwwwwwwwwwwwwwwwwwwwwwwwwwwwwwwwwwwwwww\",\"sub\":\"serviceAccount:a@p.iam.gserviceaccount.com\",\"wif\":{\"accounts\":[],\"bounds\":[],\"pools\":[],\"scopes\":[\"wwwwwwwwwwwwwwwwwwwwwwwwwwwwwwwwwwwwwwwwwwwwwwwwwwwwwwwwwwwwwwwwwwwwwwwwwwwwwwwwwwwwwwwwwwwwwwwwwwwwwwwwwwwwwwwwwwwwwwwwwwwwwwwww",
+            Some(GateFault::Claims),
+            "a word of 129 bytes",
+        ),
+        ("7", "0", None, "jti 0"),
+        ("7", "00", Some(GateFault::Claims), "jti 00"),
+        ("jti\":\"7", "jti\":\"07", Some(GateFault::Claims), "jti 07"),
+        ("7", "4294967296", Some(GateFault::Claims), "jti 2^32"),
+        (
+            "jti\":\"7",
+            "jti\":\"+7",
+            Some(GateFault::Claims),
+            "jti with a sign",
+        ),
+        ("7", "a", Some(GateFault::Claims), "jti with a letter"),
+        ("7", "", Some(GateFault::Claims), "jti empty"),
+        ("\"7\"", "7", Some(GateFault::Claims), "jti a number"),
+        (
+            ":\"a",
+            ":\"\\u0061",
+            Some(GateFault::Claims),
+            "a letter escaped",
+        ),
+        (
+            "https:/",
+            "https:\\/\\",
+            Some(GateFault::Claims),
+            "a slash escaped",
+        ),
+        (
+            "a@p.iam.gserviceaccount.com\",\"wif\":{\"accounts\":[],\"bounds\":[],\"pools\":[],\"scopes\":[\"read\"],\"who\":{\"account\":\"a",
+            "A@p.iam.gserviceaccount.com\",\"wif\":{\"accounts\":[],\"bounds\":[],\"pools\":[],\"scopes\":[\"read\"],\"who\":{\"account\":\"A",
+            Some(GateFault::Claims),
+            "an account of another form",
+        ),
+        (
+            "accounts\":[",
+            "accounts\":[\"a@p\"",
+            Some(GateFault::Claims),
+            "an account of another form on the way",
+        ),
+        (
+            "pools\":[",
+            "pools\":[\"01/pool\"",
+            Some(GateFault::Claims),
+            "a pool of another form",
+        ),
+    ] {
+        assert_eq!(rt; changed(rt.alloc(), ACCOUNT, old, new)?, want, "{what}");
+    }
+    Ok(())
+}
+
+#[test]
+fn changes_of_an_outside_identity(rt: HostRuntime) -> Result<(), Fail> {
+    for (old, new, want, what) in [
+        (
+            "s\",\"wif\":{\"accounts\":[],\"bounds\":[],\"pools\":[\"1/pool\"],\"scopes\":[\"read\"],\"who\":{\"attributes\":{},\"groups\":[],\"pool\":\"1/pool\",\"subject\":\"s",
+            "sssssssssssssssssssssssssssssssssssssssssssssssssssssssssssssssssssssssssssssssssssssssssssssssssssssssssssssssssssssssssssssss\",\"wif\":{\"accounts\":[],\"bounds\":[],\"pools\":[\"1/pool\"],\"scopes\":[\"read\"],\"who\":{\"attributes\":{},\"groups\":[],\"pool\":\"1/pool\",\"subject\":\"sssssssssssssssssssssssssssssssssssssssssssssssssssssssssssssssssssssssssssssssssssssssssssssssssssssssssssssssssssssssssssssss",
+            None,
+            "a subject of 127 bytes",
+        ),
+        (
+            "s\",\"wif\":{\"accounts\":[],\"bounds\":[],\"pools\":[\"1/pool\"],\"scopes\":[\"read\"],\"who\":{\"attributes\":{},\"groups\":[],\"pool\":\"1/pool\",\"subject\":\"s",
+            "ssssssssssssssssssssssssssssssssssssssssssssssssssssssssssssssssssssssssssssssssssssssssssssssssssssssssssssssssssssssssssssssss\",\"wif\":{\"accounts\":[],\"bounds\":[],\"pools\":[\"1/pool\"],\"scopes\":[\"read\"],\"who\":{\"attributes\":{},\"groups\":[],\"pool\":\"1/pool\",\"subject\":\"ssssssssssssssssssssssssssssssssssssssssssssssssssssssssssssssssssssssssssssssssssssssssssssssssssssssssssssssssssssssssssssssss",
+            Some(GateFault::Claims),
+            "a subject of 128 bytes",
+        ),
+        (
+            "groups\":[",
+            "groups\":[\"\"",
+            Some(GateFault::Claims),
+            "an empty group",
+        ),
+        (
+            "attributes\":{",
+            "attributes\":{\"Team\":\"x\"",
+            Some(GateFault::Claims),
+            "an attribute name with a capital",
+        ),
+        (
+            "attributes\":{",
+            "attributes\":{\"team\":\"\"",
+            Some(GateFault::Claims),
+            "an empty attribute value",
+        ),
+        (
+            "attributes\":{",
+            "attributes\":{\"b\":\"2\",\"a\":\"1\"",
+            Some(GateFault::Claims),
+            "attributes in another order",
+        ),
+        (
+            "who\":{\"attributes",
+            "who\":{\"account\":\"a@p.iam.gserviceaccount.com\",\"attributes",
+            Some(GateFault::Claims),
+            "both an account and a subject",
+        ),
+    ] {
+        assert_eq!(rt; changed(rt.alloc(), OUTSIDE, old, new)?, want, "{what}");
     }
     Ok(())
 }
@@ -481,10 +505,8 @@ fn each_text_by_its_mac_and_its_form(rt: HostRuntime) {
 }
 
 #[test]
-fn facts_of_a_service_account(rt: HostRuntime) -> Result<(), Fail> {
-    let payload =
-        "{\"act\":{\"act\":{\"act\":{\"act\":{\"act\":{\"act\":{\"act\":{\"act\":{\"sub\":\"serviceAccount:h@p.iam.gserviceaccount.com\"},\"sub\":\"serviceAccount:g@p.iam.gserviceaccount.com\"},\"sub\":\"serviceAccount:f@p.iam.gserviceaccount.com\"},\"sub\":\"serviceAccount:e@p.iam.gserviceaccount.com\"},\"sub\":\"serviceAccount:d@p.iam.gserviceaccount.com\"},\"sub\":\"serviceAccount:c@p.iam.gserviceaccount.com\"},\"sub\":\"serviceAccount:b@p.iam.gserviceaccount.com\"},\"sub\":\"serviceAccount:a@p.iam.gserviceaccount.com\"},\"exp\":9,\"iat\":3,\"iss\":\"https://sts.example\",\"jti\":\"7\",\"scope\":\"write\",\"sub\":\"serviceAccount:a@p.iam.gserviceaccount.com\",\"wif\":{\"accounts\":[\"b@p.iam.gserviceaccount.com\",\"a@p.iam.gserviceaccount.com\"],\"bounds\":[],\"pools\":[\"1/pool\",\"22/other-pool\"],\"scopes\":[\"read write\",\"write\"],\"who\":{\"account\":\"a@p.iam.gserviceaccount.com\"}}}";
-    let facts = carried_by(rt.alloc(), payload)??;
+fn facts_of_a_delegated_token(rt: HostRuntime) -> Result<(), Fail> {
+    let facts = carried_by(rt.alloc(), DELEGATED)??;
     assert_eq!(rt; facts.exp, 9);
     assert!(rt;
         matches!(&facts.who, Who::Account(account) if account.as_str() == "a@p.iam.gserviceaccount.com")
