@@ -33,7 +33,7 @@ pub front_of : (whole : List ℕ) (left' : Option (List ℕ)) (read : List ℕ) 
 front_of whole None read consumes = absurd consumes
 front_of whole (Some rest) read consumes = record { rest = rest; is = consumes; left_is = refl }
 
-at_end : (whole : List ℕ) (left' : Option (List ℕ)) (read : List ℕ) → Consumes (Some whole) left' read → IsAtEnd left' → whole ≡ read
+pub at_end : (whole : List ℕ) (left' : Option (List ℕ)) (read : List ℕ) → Consumes (Some whole) left' read → IsAtEnd left' → whole ≡ read
 at_end whole left' read consumes ended =
     let front = front_of whole left' read consumes in
     let none : front.rest ≡ [] = subst IsAtEnd front.left_is ended in
