@@ -5,9 +5,9 @@ use Rattle.serde_json.specs.Data.{Data}
 use Rattle.serde_json.specs.Find.{get, as_object}
 use Rattle.json_text.specs.Document.{document, text_at}
 use Rattle.cel_values.specs.declared.expr.Expr.{Expr}
-use Rattle.cel_syntax.specs.declared.error.SyntaxRule.{SyntaxRule}
-use Rattle.cel_syntax.specs.declared.error.SyntaxRule.TheVariants.{S1, S2, S3, S4, S5, S6, L1, L2}
-use Rattle.cel_syntax.specs.Faults.{HasNoFault}
+use Rattle.cel_grammar.specs.declared.error.SyntaxRule.{SyntaxRule}
+use Rattle.cel_grammar.specs.declared.error.SyntaxRule.TheVariants.{S1, S2, S3, S4, S5, S6, L1, L2}
+use Rattle.cel_grammar.specs.Faults.{HasNoFault}
 use Rattle.cel_syntax.specs.Parse.{Spells, IsFirstSyntaxFault}
 use Rattle.cel_syntax.specs.Print.{printed_text}
 

@@ -1,11 +1,9 @@
 ghost use Rattle.std.specs.Prelude.{◌≡◌, codes, string_bytes, IfOk, OnOk, option_map};
 ghost use Rattle.serde_json.specs.View.{view};
 ghost use Rattle.serde_json.specs.Find.{get};
-ghost use Rattle.cel_syntax.specs.Parse.{IsFirstSyntaxFault};
 ghost use Rattle.cel_lines.specs.Answers.{Answers, AnswersExpression, AppendsAnswer, expression_of, is_environment, rule_name as name_of, syntax_line as syntax_text, tree_line as tree_text};
 
-use crate::standin::print;
-use cel_syntax::{ParseError, SyntaxRule, parse};
+use cel_syntax::{ParseError, SyntaxRule, parse, print};
 use cel_values::Expr;
 use json_text::{DocumentFault, read_document, text_at};
 use serde_json::Value;

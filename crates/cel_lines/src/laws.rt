@@ -2,7 +2,8 @@ ghost use Rattle.std.specs.Prelude.{◌≡◌, ℕ, List};
 ghost use Rattle.cel_lines.specs.Lines.{AreLines, IsRest, LinesBegin};
 ghost use Rattle.cel_lines.specs.Answers.{AreAnswers, Answers};
 
-use cel_syntax::{one_draft, one_tree};
+use cel_grammar::one_draft;
+use cel_syntax::one_tree;
 
 /// A law: bytes are cut into lines in one way, and each line has at most one answer, so an input has at most one output.
 pub fn one_output()

@@ -6,7 +6,6 @@ mod end;
 mod front;
 mod laws;
 mod run;
-mod standin;
 #[cfg(test)]
 mod tests;
 

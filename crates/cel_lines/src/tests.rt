@@ -125,7 +125,8 @@ fn lines_are_answered(rt: HostRuntime) -> Result<(), Fail> {
             r#"{"expr":"[1, 2].exists(x, 1 / (x - 1) == 1)"}"#,
             "tree [1, 2].exists(x, 1 / (x - 1) == 1)",
         ),
-        (r#"{"expr":"[].map(x)"}"#, "syntax 2 S1"),
+        (r#"{"expr":"[].map(1, x)"}"#, "syntax 3 S4"),
+        (r#"{"expr":"[].map(x)"}"#, "tree [].map(x)"),
     ];
     check(&rt, rt.alloc(), &lines)
 }
