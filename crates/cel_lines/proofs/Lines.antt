@@ -21,9 +21,10 @@ free_take (suc n) (b ∷ bytes) free = (free.0, free_take n bytes free.1)
 
 -- a line feed stands behind too many bytes
 pub too_long : (bytes : List ℕ) (size : ℕ) → longest < size → IsFeedAt bytes size → IsTooLong bytes
-too_long bytes size long feed =
-    (omega (arith, long, ap length feed.1, length-append (take size bytes) (10 ∷ drop (size + 1) bytes), length-take size bytes),
-    free_front (longest + 1) size bytes (omega (arith, long)) feed.0)
+too_long bytes size long feed = (
+  omega (arith, long, ap length feed.1, length-append (take size bytes) (10 ∷ drop (size + 1) bytes), length-take size bytes),
+  free_front (longest + 1) size bytes (omega (arith, long)) feed.0,
+)
 
 pub without_end : (bytes : List ℕ) → longest < length bytes → HasNoFeed bytes → IsTooLong bytes
 without_end bytes long free = (long, free_take (longest + 1) bytes free)

@@ -277,8 +277,11 @@ module _ (left taken : Option (List ℕ)) where
         answered = answers-append so_far.lines so_far.answers (last_line carry.unused) last.0 so_far.answered last.1;
         ends = (
           inr (record { whole = so_far.lines; last = carry.unused; begins = so_far.begins; ends = is; all = refl }),
-          (more, lines-append so_far.answers last.0 ∙ ap (λ (l : List ℕ). l ++ lines_text last.0) (so_far.output ∙ ap (λ (l : List ℕ). so_far.written ++ l) none ∙ append-nil so_far.written)
-              ∙ ap (λ (l : List ℕ). so_far.written ++ l) last.2.2 ∙ sym (append_assoc so_far.written part more)),
+          (
+            more,
+            lines-append so_far.answers last.0 ∙ ap (λ (l : List ℕ). l ++ lines_text last.0) (so_far.output ∙ ap (λ (l : List ℕ). so_far.written ++ l) none ∙ append-nil so_far.written)
+                ∙ ap (λ (l : List ℕ). so_far.written ++ l) last.2.2 ∙ sym (append_assoc so_far.written part more),
+          ),
           omega (arith, so_far.size, within),
         );
       }

@@ -53,10 +53,7 @@ fn run_over(alloc: Global, input: &mut impl Source, room: usize) -> Result<Ran, 
 }
 
 fn source_of(alloc: Global, bytes: &[u8], failing: u64) -> Result<MemSource, AllocError> {
-    Ok(MemSource::new(
-        bytes.to_vec(alloc)?,
-        vec![in alloc; failing]?,
-    ))
+    Ok(MemSource::new(bytes.to_vec(alloc)?, vec![in alloc; failing]?))
 }
 
 fn run(alloc: Global, bytes: &[u8]) -> Result<Ran, Fail> {
@@ -117,8 +114,14 @@ fn lines_are_answered(rt: HostRuntime) -> Result<(), Fail> {
         (r#"{"expr":"1+(2*3)"}"#, "tree 1 + 2 * 3"),
         (r#"{"expr":"a b"}"#, "syntax 2 S1"),
         (r#"{"expr":"\"a"}"#, "syntax 0 L1"),
-        (r#"{"expr":"false && (1/0 == 1)"}"#, "tree false && 1 / 0 == 1"),
-        (r#"{"expr":"-9223372036854775808"}"#, "tree -9223372036854775808"),
+        (
+            r#"{"expr":"false && (1/0 == 1)"}"#,
+            "tree false && 1 / 0 == 1",
+        ),
+        (
+            r#"{"expr":"-9223372036854775808"}"#,
+            "tree -9223372036854775808",
+        ),
         (r#"{"expr":"9223372036854775808"}"#, "syntax 0 L2"),
         (r#"{"expr":""}"#, "syntax 0 S1"),
         (
@@ -208,20 +211,76 @@ fn limits_hold_at_their_edges(rt: HostRuntime) -> Result<(), Fail> {
         (nested(alloc, 126)?, LinesEnd::Done, "tree 1\n"),
         (nested(alloc, 127)?, LinesEnd::Done, "bad line\n"),
         (nested(alloc, 128)?, LinesEnd::Done, "bad line\n"),
-        (around(alloc, "", b'\n', 3, "")?, LinesEnd::Done, "bad line\nbad line\nbad line\n"),
-        (around(alloc, "{\"expr\":\"1\"", b' ', 65_524, "}")?, LinesEnd::Done, "tree 1\n"),
-        (around(alloc, "{\"expr\":\"1\"", b' ', 65_524, "}\n")?, LinesEnd::Done, "tree 1\n"),
-        (around(alloc, "{\"expr\":\"1\"", b' ', 65_525, "}")?, too_long, ""),
-        (around(alloc, "{\"expr\":\"1\"", b' ', 65_525, "}\n")?, too_long, ""),
-        (around(alloc, "{\"expr\":\"1\"", b' ', 65_524, "}\r\n")?, too_long, ""),
-        (around(alloc, "\n", b'x', 65_536, "")?, LinesEnd::Done, "bad line\nbad line\n"),
-        (around(alloc, "\n", b'x', 65_537, "")?, too_long, "bad line\n"),
-        (around(alloc, "{\"expr\":\"1\"}\n", b'x', 70_000, "\n\n")?, too_long, "tree 1\n"),
-        (around(alloc, "{\"expr\":\"", b' ', 4096, "\"}")?, LinesEnd::Done, "syntax 4096 S1\n"),
-        (around(alloc, "{\"expr\":\"", b' ', 4097, "\"}")?, LinesEnd::Done, "syntax 0 S6\n"),
-        (around(alloc, "{\"expr\":\"1", b'+', 600, "\"}")?, LinesEnd::Done, "syntax 2 S1\n"),
-        (around(alloc, "{\"expr\":\"", b'!', 512, "1\"}")?, LinesEnd::Done, "syntax 512 S2\n"),
-        (around(alloc, "{\"expr\":\"", b'[', 33, "\"}")?, LinesEnd::Done, "syntax 32 S3\n"),
+        (
+            around(alloc, "", b'\n', 3, "")?,
+            LinesEnd::Done,
+            "bad line\nbad line\nbad line\n",
+        ),
+        (
+            around(alloc, "{\"expr\":\"1\"", b' ', 65_524, "}")?,
+            LinesEnd::Done,
+            "tree 1\n",
+        ),
+        (
+            around(alloc, "{\"expr\":\"1\"", b' ', 65_524, "}\n")?,
+            LinesEnd::Done,
+            "tree 1\n",
+        ),
+        (
+            around(alloc, "{\"expr\":\"1\"", b' ', 65_525, "}")?,
+            too_long,
+            "",
+        ),
+        (
+            around(alloc, "{\"expr\":\"1\"", b' ', 65_525, "}\n")?,
+            too_long,
+            "",
+        ),
+        (
+            around(alloc, "{\"expr\":\"1\"", b' ', 65_524, "}\r\n")?,
+            too_long,
+            "",
+        ),
+        (
+            around(alloc, "\n", b'x', 65_536, "")?,
+            LinesEnd::Done,
+            "bad line\nbad line\n",
+        ),
+        (
+            around(alloc, "\n", b'x', 65_537, "")?,
+            too_long,
+            "bad line\n",
+        ),
+        (
+            around(alloc, "{\"expr\":\"1\"}\n", b'x', 70_000, "\n\n")?,
+            too_long,
+            "tree 1\n",
+        ),
+        (
+            around(alloc, "{\"expr\":\"", b' ', 4096, "\"}")?,
+            LinesEnd::Done,
+            "syntax 4096 S1\n",
+        ),
+        (
+            around(alloc, "{\"expr\":\"", b' ', 4097, "\"}")?,
+            LinesEnd::Done,
+            "syntax 0 S6\n",
+        ),
+        (
+            around(alloc, "{\"expr\":\"1", b'+', 600, "\"}")?,
+            LinesEnd::Done,
+            "syntax 2 S1\n",
+        ),
+        (
+            around(alloc, "{\"expr\":\"", b'!', 512, "1\"}")?,
+            LinesEnd::Done,
+            "syntax 512 S2\n",
+        ),
+        (
+            around(alloc, "{\"expr\":\"", b'[', 33, "\"}")?,
+            LinesEnd::Done,
+            "syntax 32 S3\n",
+        ),
     ];
     for (input, end, wanted) in &cases {
         for ran in [run(alloc, input)?, run_slowly(alloc, input, ALWAYS)?] {
