@@ -1,20 +1,17 @@
-//! The grammar of the expression language, and a parser that answers by it.
+//! The whole expressions of the language: their parser, with the macros told apart, and their printer.
 #![tactic(auto)]
 
-mod draft;
-mod error;
-mod frames;
 mod macro_faults;
 mod macros;
-mod parser;
-mod reader;
+mod printer;
 mod whole;
 
-pub use draft::{Draft, DraftPair};
-pub use error::{ParseError, SyntaxRule};
+pub use cel_grammar::{
+    Draft, DraftPair, ParseError, SyntaxRule, one_draft, parse_draft, viable_prefix,
+};
 pub use macro_faults::{MacroFault, first_fault};
 pub use macros::expand;
-pub use parser::{one_draft, parse_draft, viable_prefix};
+pub use printer::print;
 pub use whole::{one_tree, parse};
 
 #[cfg(test)]

@@ -1,122 +1,9 @@
-use crate::draft::{Draft, DraftPair};
-use crate::error::{ParseError, SyntaxRule};
-use crate::parser::parse_draft;
+use crate::printer::print;
 use crate::whole::parse;
-use cel_tokens::Literal;
-use cel_values::{BinaryOp, Expr, MacroKind};
+use cel_grammar::{ParseError, SyntaxRule};
+use cel_values::{Expr, MacroKind};
 use std::alloc::{AllocError, Global};
 use std::test::Fail;
-
-fn sign(op: BinaryOp) -> &'static str {
-    match op {
-        BinaryOp::Or => "||",
-        BinaryOp::And => "&&",
-        BinaryOp::Lt => "<",
-        BinaryOp::Le => "<=",
-        BinaryOp::Gt => ">",
-        BinaryOp::Ge => ">=",
-        BinaryOp::Eq => "==",
-        BinaryOp::Ne => "!=",
-        BinaryOp::Within => "in",
-        BinaryOp::Add => "+",
-        BinaryOp::Sub => "-",
-        BinaryOp::Mul => "*",
-        BinaryOp::Div => "/",
-        BinaryOp::Rem => "%",
-    }
-}
-
-fn literal_shape(alloc: Global, literal: &Literal) -> Result<String, AllocError> {
-    match literal {
-        Literal::Null => "null".to_owned(alloc),
-        Literal::Bool(flag) => format!(in alloc; "{flag}"),
-        Literal::Text(text) => text.as_str().to_owned(alloc),
-    }
-}
-
-// An expression with every part in parentheses, its operator first.
-#[cycle(shape)]
-fn shape(alloc: Global, e: &Draft) -> Result<String, AllocError> {
-    match e {
-        Draft::Literal(literal) => literal_shape(alloc, literal),
-        Draft::Int(n) => format!(in alloc; "{n}"),
-        Draft::Name(name) => name.text.as_str().to_owned(alloc),
-        Draft::List(items) => all_shapes(alloc, "list", items.as_slice()),
-        Draft::Map(pairs) => pair_shapes(alloc, pairs.as_slice()),
-        Draft::Select(e, name) => {
-            let part = shape(alloc, e.get())?;
-            let field = name.text.as_str();
-            format!(in alloc; "(. {part} {field})")
-        }
-        Draft::Index(a, b) => {
-            let left = shape(alloc, a.get())?;
-            let right = shape(alloc, b.get())?;
-            format!(in alloc; "(at {left} {right})")
-        }
-        Draft::Call(name, items) => all_shapes(alloc, name.text.as_str(), items.as_slice()),
-        Draft::Method(e, name, items) => {
-            let part = shape(alloc, e.get())?;
-            let rest = all_shapes(alloc, name.text.as_str(), items.as_slice())?;
-            format!(in alloc; "({part} . {rest})")
-        }
-        Draft::Not(e) => one_shape(alloc, "not", e.get()),
-        Draft::Neg(e) => one_shape(alloc, "neg", e.get()),
-        Draft::Binary(op, a, b) => {
-            let word = sign(*op);
-            let left = shape(alloc, a.get())?;
-            let right = shape(alloc, b.get())?;
-            format!(in alloc; "({word} {left} {right})")
-        }
-        Draft::Cond(c, a, b) => {
-            let part = shape(alloc, c.get())?;
-            let left = shape(alloc, a.get())?;
-            let right = shape(alloc, b.get())?;
-            format!(in alloc; "(? {part} (: {left} {right}))")
-        }
-    }
-}
-
-#[cycle(shape)]
-fn one_shape(alloc: Global, word: &str, e: &Draft) -> Result<String, AllocError> {
-    let part = shape(alloc, e)?;
-    format!(in alloc; "({word} {part})")
-}
-
-#[cycle(shape)]
-fn all_shapes(alloc: Global, word: &str, items: &[Draft]) -> Result<String, AllocError> {
-    let mut out = format!(in alloc; "({word}")?;
-    for item in items {
-        out.push_str(" ")?;
-        out.push_str(shape(alloc, item)?.as_str())?;
-    }
-    out.push_str(")")?;
-    Ok(out)
-}
-
-#[cycle(shape)]
-fn pair_shapes(alloc: Global, pairs: &[DraftPair]) -> Result<String, AllocError> {
-    let mut out = "(map".to_owned(alloc)?;
-    for pair in pairs {
-        out.push_str(" ")?;
-        out.push_str(shape(alloc, &pair.key)?.as_str())?;
-        out.push_str(" ")?;
-        out.push_str(shape(alloc, &pair.value)?.as_str())?;
-    }
-    out.push_str(")")?;
-    Ok(out)
-}
-
-// The answer to a text: its shape, or the place and the rule of its fault.
-fn answer(alloc: Global, text: &str) -> Result<String, AllocError> {
-    match parse_draft(alloc, text) {
-        Ok(e) => shape(alloc, &e),
-        Err(ParseError::Memory) => "memory".to_owned(alloc),
-        Err(ParseError::Fault { at, rule }) => {
-            let name = rule_name(rule);
-            format!(in alloc; "{at} {name}")
-        }
-    }
-}
 
 fn rule_name(rule: SyntaxRule) -> &'static str {
     match rule {
@@ -129,127 +16,6 @@ fn rule_name(rule: SyntaxRule) -> &'static str {
         SyntaxRule::L1 => "L1",
         SyntaxRule::L2 => "L2",
     }
-}
-
-fn repeated(alloc: Global, part: &str, count: usize, rest: &str) -> Result<String, AllocError> {
-    let mut out = String::new(alloc);
-    for _ in 0..count {
-        out.push_str(part)?;
-    }
-    out.push_str(rest)?;
-    Ok(out)
-}
-
-#[test]
-fn texts_give_their_trees(rt: HostRuntime) -> Result<(), Fail> {
-    let alloc = rt.alloc();
-    for (text, want) in [
-        ("1 + 2 * 3", "(+ 1 (* 2 3))"),
-        ("a - b - c", "(- (- a b) c)"),
-        ("a || b && c == d + e", "(|| a (&& b (== c (+ d e))))"),
-        ("a < b in c", "(in (< a b) c)"),
-        ("a && b || c", "(|| (&& a b) c)"),
-        ("a / b % c", "(% (/ a b) c)"),
-        ("a <= b != (c >= d)", "(!= (<= a b) (>= c d))"),
-        ("a ? b : c ? d : e", "(? a (: b (? c (: d e))))"),
-        ("!!a.b[0]", "(not (not (at (. a b) 0)))"),
-        ("-1.a", "(neg (. 1 a))"),
-        ("-1[0]", "(neg (at 1 0))"),
-        ("--9223372036854775808", "(neg -9223372036854775808)"),
-        ("- -5", "(neg -5)"),
-        ("a - -1", "(- a -1)"),
-        ("-(1)", "(neg 1)"),
-        (
-            "f(1, [2, 3,], {4: 5, 'x': y,})",
-            "(f 1 (list 2 3) (map 4 5 x y))",
-        ),
-        ("[] == {}", "(== (list) (map))"),
-        ("a.if(1).as", "(. (a . (if 1)) as)"),
-        ("f()", "(f)"),
-        ("true ? null : false", "(? true (: null false))"),
-        ("0x1fF + 007", "(+ 511 7)"),
-        ("r'\\' + 'it\\'s' + \"\\\"\\\\\"", "(+ (+ \\ it's) \"\\)"),
-        ("'\\u0041\\u00e9\\u20AC'", "A\u{e9}\u{20ac}"),
-        ("1. e5 // end", "(. 1 e5)"),
-        ("a // one\r+ // two\n b", "(+ a b)"),
-        ("\ta\u{c}.\n_b1 ", "(. a _b1)"),
-        ("intern", "intern"),
-        ("r", "r"),
-    ] {
-        let found = answer(alloc, text)?;
-        assert_eq!(rt; found.as_str(), want, "at {text}");
-    }
-    Ok(())
-}
-
-#[test]
-fn texts_give_their_first_fault(rt: HostRuntime) -> Result<(), Fail> {
-    let alloc = rt.alloc();
-    for (text, want) in [
-        ("", "0 S1"),
-        ("a +  // x", "9 S1"),
-        ("a b \"x", "2 S1"),
-        ("a 9223372036854775808", "2 L2"),
-        ("9223372036854775808 'a", "0 L2"),
-        ("1 - 9223372036854775808", "4 L2"),
-        ("-(9223372036854775808)", "2 L2"),
-        ("-9223372036854775808 .a", "1 L2"),
-        ("-9223372036854775809", "1 L2"),
-        ("99999999999999999999999", "0 L2"),
-        ("1 + #", "4 L1"),
-        ("a\u{b}b", "1 L1"),
-        ("'a\nb'", "0 L1"),
-        ("r'a\rb'", "1 L1"),
-        ("r\"abc", "1 L1"),
-        ("'\\/'", "0 L1"),
-        ("'\\x41'", "0 L1"),
-        ("'\\ud83d\\ude00'", "0 L1"),
-        ("'\\u12'", "0 L1"),
-        ("a ? b ? c : d : e", "6 S1"),
-        ("!-a", "1 S1"),
-        ("-!a", "1 S1"),
-        ("{a ? b : c}", "10 S1"),
-        ("f(1)(2)", "4 S1"),
-        ("(f)(1)", "3 S1"),
-        ("a[0](1)", "4 S1"),
-        ("true(1)", "4 S1"),
-        ("a.in", "2 S1"),
-        ("if + 1", "0 S1"),
-        ("1.5", "2 S1"),
-        ("1e5", "1 S1"),
-        ("0x", "1 S1"),
-        ("[1,,]", "3 S1"),
-        ("f(1,)", "4 S1"),
-        ("a = b", "2 L1"),
-        ("(a]", "2 S1"),
-    ] {
-        let found = answer(alloc, text)?;
-        assert_eq!(rt; found.as_str(), want, "at {text}");
-    }
-    Ok(())
-}
-
-#[test]
-fn limits_hold_at_their_edges(rt: HostRuntime) -> Result<(), Fail> {
-    let alloc = rt.alloc();
-    for (part, count, rest, want) in [
-        ("(", 33, "", "32 S3"),
-        ("(", 32, "1(", "33 S3"),
-        ("(", 32, "", "32 S1"),
-        ("!", 512, "a", "512 S2"),
-        ("!", 511, "a)", "512 S2"),
-        ("!", 512, "", "512 S1"),
-        (" ", 4_097, "", "0 S6"),
-        (" ", 4_096, "", "4096 S1"),
-        ("#", 4_097, "", "0 S6"),
-    ] {
-        let text = repeated(alloc, part, count, rest)?;
-        let found = answer(alloc, text.as_str())?;
-        assert_eq!(rt; found.as_str(), want, "at {count} {rest}");
-    }
-    let deep = repeated(alloc, "!", 511, "a")?;
-    assert!(rt; parse_draft(alloc, deep.as_str()).is_ok());
-    Ok(())
 }
 
 // What the whole parser says of a text: a word for its outermost part, or the place and the rule of its fault.
@@ -298,6 +64,208 @@ fn macros_have_their_forms(rt: HostRuntime) -> Result<(), Fail> {
     ] {
         let found = whole_answer(alloc, text)?;
         assert_eq!(rt; found.as_str(), want, "at {text}");
+    }
+    Ok(())
+}
+
+// An expression's text, read and printed, or the place and the rule of its fault.
+fn printed(alloc: Global, text: &str) -> Result<String, AllocError> {
+    match parse(alloc, text) {
+        Ok(e) => Ok(print(alloc, &e)?.into_string()),
+        Err(ParseError::Memory) => "memory".to_owned(alloc),
+        Err(ParseError::Fault { at, rule }) => {
+            let name = rule_name(rule);
+            format!(in alloc; "{at} {name}")
+        }
+    }
+}
+
+#[test]
+fn texts_are_printed(rt: HostRuntime) -> Result<(), Fail> {
+    let alloc = rt.alloc();
+    for (text, want) in [
+        ("a ? b : c ? d : e", "a ? b : c ? d : e"),
+        ("a ? b : (c ? d : e)", "a ? b : c ? d : e"),
+        ("(a ? b : c) ? d : e", "(a ? b : c) ? d : e"),
+        ("a ? (b ? c : d) : e", "a ? (b ? c : d) : e"),
+        (
+            "(a ? b : c) ? (d ? e : f) : g ? h : i",
+            "(a ? b : c) ? (d ? e : f) : g ? h : i",
+        ),
+        ("(a || b) ? (c && d) : (e || f)", "a || b ? c && d : e || f"),
+        ("(a ? b : c) || d", "(a ? b : c) || d"),
+        ("a || (b ? c : d)", "a || (b ? c : d)"),
+        ("(a ? b : c) * d", "(a ? b : c) * d"),
+        ("a * (b ? c : d)", "a * (b ? c : d)"),
+        ("(a ? b : c) in d", "(a ? b : c) in d"),
+        ("!(a ? b : c)", "!(a ? b : c)"),
+        ("-(a ? b : c)", "-(a ? b : c)"),
+        ("(a ? b : c).d", "(a ? b : c).d"),
+        ("(a ? b : c)[0]", "(a ? b : c)[0]"),
+        ("(a ? b : c).f()", "(a ? b : c).f()"),
+        ("(a ? b : c).all(x, x)", "(a ? b : c).all(x, x)"),
+        ("[(a ? b : c), (d)]", "[a ? b : c, d]"),
+        ("f((a ? b : c), (d))", "f(a ? b : c, d)"),
+        ("a.f((b ? c : d))", "a.f(b ? c : d)"),
+        ("a[(b ? c : d)]", "a[b ? c : d]"),
+        ("{(a ? b : c): (d ? e : f)}", "{a ? b : c: d ? e : f}"),
+        ("l.all(x, (x ? a : b))", "l.all(x, x ? a : b)"),
+        ("-(-1)", "-(-1)"),
+        ("-(1)", "-(1)"),
+        ("!(-1)", "!(-1)"),
+        ("(-1).a", "(-1).a"),
+        ("(-1)[0]", "(-1)[0]"),
+        ("(-1).f()", "(-1).f()"),
+        ("(-1).all(x, x)", "(-1).all(x, x)"),
+        ("1.a", "1.a"),
+        ("1[0]", "1[0]"),
+        ("-1.a", "-1.a"),
+        ("-1[0]", "-1[0]"),
+        ("--1", "-(-1)"),
+        ("- -5", "-(-5)"),
+        ("-(-(1))", "--(1)"),
+        ("!(1)", "!1"),
+        ("-0", "0"),
+        ("-9223372036854775808", "-9223372036854775808"),
+        ("9223372036854775807", "9223372036854775807"),
+        ("-(-9223372036854775808)", "-(-9223372036854775808)"),
+        ("a - -1", "a - -1"),
+        ("a - -b", "a - -b"),
+        ("-a - b", "-a - b"),
+        ("-(a - b)", "-(a - b)"),
+        ("a - (-1)", "a - -1"),
+        ("(-1) - a", "-1 - a"),
+        ("(-1) * 2", "-1 * 2"),
+        ("-1 + 2", "-1 + 2"),
+        ("--x", "--x"),
+        ("!!x", "!!x"),
+        ("!(-x)", "!(-x)"),
+        ("-(!x)", "-(!x)"),
+        ("-(-x)", "--x"),
+        ("!(!x)", "!!x"),
+        ("!(a && b)", "!(a && b)"),
+        ("-(a * b)", "-(a * b)"),
+        ("(!a) && b", "!a && b"),
+        ("(-a) * b", "-a * b"),
+        ("(!a).b", "(!a).b"),
+        ("(-a).b", "(-a).b"),
+        ("(-a)[0]", "(-a)[0]"),
+        ("(!a).f()", "(!a).f()"),
+        ("!(a.b)", "!a.b"),
+        ("-(a[0])", "-a[0]"),
+        ("-(f(1))", "-f(1)"),
+        ("-'x'", "-\"x\""),
+        ("(a + b).c", "(a + b).c"),
+        ("(a + b)[0]", "(a + b)[0]"),
+        ("(a + b).f()", "(a + b).f()"),
+        ("((a).b).c", "a.b.c"),
+        ("a . b [ 0 ] . c ( d , e )", "a.b[0].c(d, e)"),
+        ("a.if(1).as", "a.if(1).as"),
+        ("a.true_", "a.true_"),
+        ("f()", "f()"),
+        ("a.f()", "a.f()"),
+        ("[1].a", "[1].a"),
+        ("{}.a", "{}.a"),
+        ("f(1).a", "f(1).a"),
+        ("'x'.a", "\"x\".a"),
+        ("true.a", "true.a"),
+        ("has(a.b)", "has(a.b)"),
+        ("has((a + b).c)", "has((a + b).c)"),
+        ("has((-1).a)", "has((-1).a)"),
+        ("has(a[0].b)", "has(a[0].b)"),
+        ("has((a).b)", "has(a.b)"),
+        ("has((a.b))", "has(a.b)"),
+        ("(a + b).all(x, p)", "(a + b).all(x, p)"),
+        ("l.exists(x, x)", "l.exists(x, x)"),
+        ("l.exists_one(x, x > 1)", "l.exists_one(x, x > 1)"),
+        ("l.filter(x, y)", "l.filter(x, y)"),
+        ("l.map(x, x + 1)", "l.map(x, x + 1)"),
+        ("l.map(x, x > 1, x)", "l.map(x, x > 1, x)"),
+        ("l.filter(x, x, x)", "l.filter(x, x, x)"),
+        ("all(x, y)", "all(x, y)"),
+        ("l.map((x), (x > 1), (x))", "l.map(x, x > 1, x)"),
+        (
+            "l.all(x, m.all(y, has(y.z)))",
+            "l.all(x, m.all(y, has(y.z)))",
+        ),
+        ("'a\\\\b'", "\"a\\\\b\""),
+        ("'\"'", "\"\\\"\""),
+        ("'\\n\\r\\t'", "\"\\n\\r\\t\""),
+        ("'it\\'s'", "\"it's\""),
+        ("\"it's\"", "\"it's\""),
+        ("\"\"", "\"\""),
+        (
+            "'\\u0000\\u0001\\u001f\\u007f'",
+            "\"\u{0}\u{1}\u{1f}\u{7f}\"",
+        ),
+        ("'\u{0}\t\u{b}'", "\"\u{0}\\t\u{b}\""),
+        ("'\u{e9}\u{20ac}\u{1f600}'", "\"\u{e9}\u{20ac}\u{1f600}\""),
+        ("'\\u00e9'", "\"\u{e9}\""),
+        ("r'\\d'", "\"\\\\d\""),
+        ("r\"\\\"", "\"\\\\\""),
+        ("'\\\\n'", "\"\\\\n\""),
+        ("0x10", "16"),
+        ("-0xfF", "-255"),
+        ("007", "7"),
+        ("null", "null"),
+        ("true ? null : false", "true ? null : false"),
+        ("[1, 2,]", "[1, 2]"),
+        ("{1: 2,}", "{1: 2}"),
+        ("[]", "[]"),
+        ("{}", "{}"),
+        ("[[], {}]", "[[], {}]"),
+        ("{'a':[1],b:{}}", "{\"a\": [1], b: {}}"),
+        ("((a))", "a"),
+        ("a// note", "a"),
+        ("a\n&&\tb", "a && b"),
+        ("a in [1, 2]", "a in [1, 2]"),
+    ] {
+        let found = printed(alloc, text)?;
+        assert_eq!(rt; found.as_str(), want, "at {text}");
+    }
+    Ok(())
+}
+
+// The operators of two operands, with their levels.
+const SIGNS: [(&str, u8); 14] = [
+    ("||", 1),
+    ("&&", 2),
+    ("<", 3),
+    ("<=", 3),
+    (">", 3),
+    (">=", 3),
+    ("==", 3),
+    ("!=", 3),
+    ("in", 3),
+    ("+", 4),
+    ("-", 4),
+    ("*", 5),
+    ("/", 5),
+    ("%", 5),
+];
+
+#[test]
+fn operators_are_bracketed_where_they_need_it(rt: HostRuntime) -> Result<(), Fail> {
+    let alloc = rt.alloc();
+    for (outer, level) in SIGNS {
+        for (inner, inner_level) in SIGNS {
+            let left = format!(in alloc; "(a {inner} b) {outer} c")?;
+            let plain = format!(in alloc; "a {inner} b {outer} c")?;
+            let want = if inner_level < level {
+                left.as_str()
+            } else {
+                plain.as_str()
+            };
+            assert_eq!(rt; printed(alloc, left.as_str())?.as_str(), want);
+            let right = format!(in alloc; "a {outer} (b {inner} c)")?;
+            let plain = format!(in alloc; "a {outer} b {inner} c")?;
+            let want = if inner_level > level {
+                plain.as_str()
+            } else {
+                right.as_str()
+            };
+            assert_eq!(rt; printed(alloc, right.as_str())?.as_str(), want);
+        }
     }
     Ok(())
 }

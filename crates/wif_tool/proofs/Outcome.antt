@@ -19,7 +19,7 @@ use Rattle.sts_serve.specs.declared.served.Served.{Served}
 use Rattle.sts_serve.specs.declared.served.Served.TheVariants.{Done, ReadFault, WriteFault, ClockFault, Malformed, InputLimit, Stopped}
 use Rattle.sts_serve.proofs.Runs.{length-texts, texts, some_frame}
 use Rattle.sts_serve.proofs.Cuts.{one_cut}
-use Rattle.wif_tool.specs.Status.{ConfigRead, NotConfigured, NoConfiguration, ScriptOutcome, AllAnswered, AnsweredUpTo, Closes, LineDue, malformed_line, replies_text}
+use Rattle.wif_tool.specs.Status.{StopsBefore, ConfigRead, NotConfigured, NoConfiguration, ScriptOutcome, AllAnswered, AnsweredUpTo, Closes, LineDue, malformed_line, replies_text}
 
 -- ---- sources that tell
 
@@ -33,7 +33,7 @@ pub front_of : (whole : List ℕ) (left' : Option (List ℕ)) (read : List ℕ) 
 front_of whole None read consumes = absurd consumes
 front_of whole (Some rest) read consumes = record { rest = rest; is = consumes; left_is = refl }
 
-at_end : (whole : List ℕ) (left' : Option (List ℕ)) (read : List ℕ) → Consumes (Some whole) left' read → IsAtEnd left' → whole ≡ read
+pub at_end : (whole : List ℕ) (left' : Option (List ℕ)) (read : List ℕ) → Consumes (Some whole) left' read → IsAtEnd left' → whole ≡ read
 at_end whole left' read consumes ended =
     let front = front_of whole left' read consumes in
     let none : front.rest ≡ [] = subst IsAtEnd front.left_is ended in
@@ -186,3 +186,15 @@ module _ (config : Config) (before after : List Entry) (frames : List Frame) (le
       → status ≢ 3 → status ≢ 4 → (status ≡ 0) ⊎ (status ≡ 7)
   complete left taken' status told outcome three four =
       complete_by outcome.end outcome.replied taken' status (subst (λ l. ScriptRun config before after l left' taken outcome.replied outcome.end) told outcome.run) outcome.closes three four
+
+-- ---- a run that was not stopped before the input
+
+pub ran : {L R : Type 0} (status : ℕ) → (L → StopsBefore status) → status ≢ 1 → status ≢ 3 → status ≢ 7 → L ⊎ R → R
+ran status stops one three seven (inl stopped) = absurd (⊎_elim one (λ more. ⊎_elim three seven more) (stops stopped))
+ran status stops one three seven (inr run) = run
+
+-- what a run that was stopped says where nothing failed and the configuration is one
+pub stopped_complete : (status : ℕ) → StopsBefore status → (status ≡ 1 → ⊥) → (status ≡ 3 → ⊥) → (status ≡ 0) ⊎ (status ≡ 7)
+stopped_complete status (inl one) no_one no_three = absurd (no_one one)
+stopped_complete status (inr (inl three)) no_one no_three = absurd (no_three three)
+stopped_complete status (inr (inr seven)) no_one no_three = inr seven

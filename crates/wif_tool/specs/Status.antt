@@ -5,6 +5,10 @@ use Rattle.std.specs.Fmt.{decimal}
 use Rattle.std.specs.Io.KnownBytes.{Consumes, Appends, IsAtEnd}
 use Rattle.wif_base.specs.Carried.{input_limit}
 use Rattle.wif_base.specs.Output.{IsProperPart}
+use Rattle.cel_lines.specs.Lines.{AreLines, LinesBegin, IsTooLong}
+use Rattle.cel_lines.specs.Run.{LinesRun}
+use Rattle.cel_lines.specs.declared.end.LinesEnd.{LinesEnd}
+use Rattle.cel_lines.specs.declared.end.LinesEnd.TheVariants as lines
 use Rattle.links.specs.declared.config.Config.{Config}
 use Rattle.links.specs.Configuration.{IsConfiguration, config_limit}
 use Rattle.links.specs.declared.entry.Entry.{Entry}
@@ -15,7 +19,7 @@ use Rattle.sts_serve.specs.declared.frame.Frame.{Frame}
 use Rattle.sts_serve.specs.declared.served.Served.{Served}
 use Rattle.sts_serve.specs.declared.served.Served.TheVariants.{Done, ReadFault, WriteFault, ClockFault, Malformed, InputLimit, Stopped}
 use Rattle.wif_tool.specs.Command.{command}
-use Rattle.wif_tool.specs.declared.command.Command.TheVariants.{Script}
+use Rattle.wif_tool.specs.declared.command.Command.TheVariants.{Cel, Script}
 
 -- ---- the configuration
 
@@ -109,3 +113,38 @@ pub record HasForms (words : List (List ℕ)) (config input : Option (List ℕ))
   pub each : AllByRecursion IsFrame frames
   pub whole : input ≡ Some (script_text frames)
   pub within : length (script_text frames) ≤ input_limit
+
+-- ---- a run over lines
+
+abbrev pub lines_status : LinesEnd → ℕ
+lines_status lines.Done = 0
+lines_status lines.ReadFault = 3
+lines_status lines.WriteFault = 4
+lines_status lines.Memory = 7
+lines_status lines.LineTooLong = 8
+lines_status lines.InputLimit = 10
+
+-- The account of a whole run of `cel`: the run over the lines, and the status of its end.
+pub record CelOutcome (left left' taken taken' : Option (List ℕ)) (status : ℕ) : Type 0 where
+  pub end : LinesEnd
+  pub run : LinesRun left left' taken taken' end
+  pub closes : status ≡ lines_status end
+
+-- The words are `cel`, and the input is lines of at most 65,536 bytes.
+pub record HasLines (words : List (List ℕ)) (input : Option (List ℕ)) : Type 0 where
+  pub cel : command words ≡ Some Cel
+  pub bytes : List ℕ
+  pub told : input ≡ Some bytes
+  pub lines : List (List ℕ)
+  pub are : AreLines bytes lines
+  pub within : length bytes ≤ input_limit
+
+-- The words are `cel`, and behind some lines the input has one that is too long.
+pub record HasLongLine (words : List (List ℕ)) (input : Option (List ℕ)) : Type 0 where
+  pub cel : command words ≡ Some Cel
+  pub bytes : List ℕ
+  pub told : input ≡ Some bytes
+  pub lines : List (List ℕ)
+  pub rest : List ℕ
+  pub begins : LinesBegin bytes lines rest
+  pub long : IsTooLong rest

@@ -4,6 +4,8 @@ ghost use Rattle.wif_tool.specs.Command.{command, texts};
 /// What the words of a command line ask for.
 #[derive(Clone, Copy, Debug, PartialEq, Eq)]
 pub enum Command {
+    /// `cel`: the expressions in lines, from standard input to standard output.
+    Cel,
     /// `script CONFIG JOURNAL`: the requests of a script, from standard input to standard output.
     Script,
 }
@@ -13,6 +15,13 @@ pub fn command_of(words: &[String]) -> Option<Command>
     ensures { result ≡ command (texts words.now) }
 {
     match words {
+        [name] => {
+            if name.as_str() == "cel" {
+                Some(Command::Cel)
+            } else {
+                None
+            }
+        }
         [name, _, _] => {
             if name.as_str() == "script" {
                 Some(Command::Script)

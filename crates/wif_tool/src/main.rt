@@ -1,8 +1,10 @@
-//! The program `sts`: a security token service over a script of requests.
+//! The program `sts`: a security token service over a script of requests, and the expressions of its conditions.
 #![tactic(auto)]
 
+mod cel;
 mod command;
 mod run;
+mod script;
 mod setup;
 #[cfg(test)]
 mod tests;

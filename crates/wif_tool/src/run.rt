@@ -5,22 +5,20 @@ ghost use Rattle.wif_base.specs.Carried.{input_limit};
 ghost use Rattle.links.specs.declared.entry.Entry.{Entry};
 ghost use Rattle.sts_serve.specs.Frames.{ScriptSpells};
 ghost use Rattle.sts_serve.specs.declared.frame.Frame.{Frame};
-ghost use Rattle.links.specs.State.{start_of};
 ghost use Rattle.wif_tool.specs.Command.{command, texts};
-ghost use Rattle.wif_tool.specs.Setup.{config_of};
-ghost use Rattle.wif_tool.specs.Status.{Configured, NoConfiguration, NotConfigured, StopsBefore, ScriptOutcome, AllAnswered, AnsweredUpTo, LineDue, malformed_line, HasForms};
+ghost use Rattle.wif_tool.specs.Status.{Configured, NoConfiguration, NotConfigured, StopsBefore, ScriptOutcome, AllAnswered, AnsweredUpTo, HasForms, CelOutcome, HasLines, HasLongLine};
 
 use crate::Command;
+use crate::cel::cel_status;
 use crate::command::command_of;
-use crate::setup::{Setup, SetupEnd, read_setup};
+use crate::script::script_status;
 use std::alloc::Global;
-use sts_core::Sts;
-use sts_serve::{Served, run_script};
-use wif_base::{Clock, Disk, Failed, Sink, Source, write_text};
+use wif_base::{Clock, Disk, Sink, Source};
 
 /// Does all that the program `sts` does, and answers its status: 0 where the input was read to its end and
 /// answered, 1 at a configuration that is none, 2 at words that are no command, 3 where reading failed, 4 where
-/// writing failed, 7 for want of memory, 8 at what is no frame, 10 at more than 2^30 bytes of input.
+/// writing failed, 7 for want of memory, 8 at what is no frame or a line that is too long, 10 at more than 2^30 bytes
+/// of input.
 pub fn sts_run<G: Source, I: Source, O: Sink, D: Disk, C: Clock>(
     alloc: Global,
     words: &[String],
@@ -30,12 +28,12 @@ pub fn sts_run<G: Source, I: Source, O: Sink, D: Disk, C: Clock>(
     disk: &mut D,
     clock: &mut C,
 ) -> u8
-    // What a reader asks first: at 0 all was answered, and at 8 all that stands before what is no frame.
-    ensures done { result ≡ 0 → (setup : _) × Configured (G.left config.old) (G.left config.new) setup
+    // What a reader asks first of `script`: at 0 all was answered, and at 8 all that stands before what is no frame.
+    ensures done { command (texts words.now) ≡ Some Command.Script → result ≡ 0 → (setup : _) × Configured (G.left config.old) (G.left config.new) setup
         × AllAnswered setup [] (I.left input.old) (I.left input.new) (O.taken output.old) (O.taken output.new) }
-    ensures malformed { result ≡ 8 → (setup : _) × Configured (G.left config.old) (G.left config.new) setup
+    ensures malformed { command (texts words.now) ≡ Some Command.Script → result ≡ 8 → (setup : _) × Configured (G.left config.old) (G.left config.new) setup
         × AnsweredUpTo setup [] (I.left input.old) (I.left input.new) (O.taken output.old) (O.taken output.new) }
-    ensures malformed_only { (bytes : List ℕ) (frames : List Frame) (rest : List ℕ) → I.left input.old ≡ Some bytes
+    ensures malformed_only { command (texts words.now) ≡ Some Command.Script → (bytes : List ℕ) (frames : List Frame) (rest : List ℕ) → I.left input.old ≡ Some bytes
         → ScriptSpells bytes frames rest → rest ≢ [] → result ≢ 0 }
 
     // With words, configuration and input of their forms and no fault all is answered, unless memory runs out.
@@ -45,11 +43,23 @@ pub fn sts_run<G: Source, I: Source, O: Sink, D: Disk, C: Clock>(
         → (Rose (O.faults output.old) (O.faults output.new) → ⊥)
         → (result ≡ 0) ⊎ (result ≡ 7) }
 
-    // The output law and the status law: what was read, written and recorded at each status.
+    // The output law and the status law of each command: what was read, written and recorded at each status.
     ensures script { command (texts words.now) ≡ Some Command.Script
         → (StopsBefore result × (input.new ≡ input.old) × (output.new ≡ output.old))
         ⊎ ((setup : _) × Configured (G.left config.old) (G.left config.new) setup
         × (after : List Entry) × ScriptOutcome setup [] after (I.left input.old) (I.left input.new) (O.taken output.old) (O.taken output.new) result) }
+
+    ensures cel { command (texts words.now) ≡ Some Command.Cel
+        → CelOutcome (I.left input.old) (I.left input.new) (O.taken output.old) (O.taken output.new) result × (config.new ≡ config.old) }
+
+    // Where each line has at most 65,536 bytes and nothing fails all are answered, unless memory runs out; a longer
+    // line is never taken for the end.
+    ensures cel_complete { HasLines (texts words.now) (I.left input.old)
+        → (Rose (I.faults input.old) (I.faults input.new) → ⊥)
+        → (Rose (O.faults output.old) (O.faults output.new) → ⊥)
+        → (result ≡ 0) ⊎ (result ≡ 7) }
+    ensures cel_long_line { HasLongLine (texts words.now) (I.left input.old) → result ≢ 0 }
+    ensures cel_read_fault { command (texts words.now) ≡ Some Command.Cel → result ≡ 3 → Rose (I.faults input.old) (I.faults input.new) }
 
     // The causes of the other statuses.
     ensures words { (result ≡ 2) ↔ (command (texts words.now) ≡ None) }
@@ -69,58 +79,9 @@ pub fn sts_run<G: Source, I: Source, O: Sink, D: Disk, C: Clock>(
     ensures disk { disk.new ≡ disk.old }
     ensures clock { clock.new ≡ clock.old }
 {
-    let Some(Command::Script) = command_of(words) else {
-        return 2;
-    };
-    let setup = match read_setup(alloc, config) {
-        Ok(setup) => setup,
-        Err(SetupEnd::Failed) => return 3,
-        Err(SetupEnd::Form) => return 1,
-        Err(SetupEnd::Memory) => return 7,
-    };
-    run_over(alloc, setup, input, output, disk)
-}
-
-// The run over a script, and its closing line.
-fn run_over<I: Source, O: Sink, D: Disk>(
-    alloc: Global,
-    setup: Setup,
-    input: &mut I,
-    output: &mut O,
-    disk: &mut D,
-) -> u8
-    requires { setup.state.content ≡ start_of (config_of setup) }
-    ensures outcome { (after : List Entry) × ScriptOutcome (config_of setup) [] after (I.left input.old) (I.left input.new) (O.taken output.old) (O.taken output.new) result }
-    ensures read_fault { result ≡ 3 → Rose (I.faults input.old) (I.faults input.new) }
-    ensures write_fault { result ≡ 4 → Rose (O.faults output.old) (O.faults output.new) }
-    ensures clock_fault { result ≢ 9 }
-    ensures disk { disk.new ≡ disk.old }
-{
-    let mut sts = Sts::start(&mut *disk, setup.admin, setup.gate, setup.state);
-    let end = run_script(alloc, &mut sts, input, output);
-    // A disk that is lent is known again only once it is given back.
-    let _disk = sts.close();
-    match end {
-        Served::Done => 0,
-        Served::ReadFault => 3,
-        Served::WriteFault => 4,
-        Served::ClockFault => 9,
-        Served::Malformed { at } => write_fault_line(alloc, output, at),
-        Served::InputLimit => 10,
-        Served::Stopped(_) => 7,
-    }
-}
-
-fn write_fault_line<O: Sink>(alloc: Global, output: &mut O, at: u64) -> u8
-    ensures line { LineDue (malformed_line at) 8 (O.taken output.old) (O.taken output.new) result }
-    ensures cause { result ≡ 4 → Rose (O.faults output.old) (O.faults output.new) }
-    ensures count { O.faults output.old ≤ O.faults output.new }
-{
-    let Ok(line) = format!(in alloc; "fault 8 at {at}\n") else {
-        return 7;
-    };
-    match write_text(output, line.as_bytes()) {
-        Ok(()) => 8,
-        Err(Failed) => 4,
+    match command_of(words) {
+        Some(Command::Script) => script_status(alloc, config, input, output, disk),
+        Some(Command::Cel) => cel_status(alloc, input, output),
+        None => 2,
     }
 }

@@ -242,8 +242,12 @@ fn each_call_of_the_outside_may_fail(rt: HostRuntime) -> Result<(), Fail> {
 #[test]
 fn words_and_configuration_are_looked_at_first(rt: HostRuntime) -> Result<(), Fail> {
     let alloc = rt.alloc();
-    let cases: [(&str, &[u8], u8); 9] = [
+    let cases: [(&str, &[u8], u8); 13] = [
         ("script c j", CONFIG, 0),
+        ("cel", CONFIG, 0),
+        ("cel", b"", 0),
+        ("cel c", CONFIG, 2),
+        ("cel c j", CONFIG, 2),
         ("", CONFIG, 2),
         ("script", CONFIG, 2),
         ("script c", CONFIG, 2),
@@ -257,6 +261,32 @@ fn words_and_configuration_are_looked_at_first(rt: HostRuntime) -> Result<(), Fa
         let mut input = MemSource::new(Vec::new(alloc), Vec::new(alloc));
         let ran = run_with(alloc, line, config, &mut input, NEVER)?;
         assert_eq!(rt; ran.status, status, "{line}");
+    }
+    Ok(())
+}
+
+#[test]
+fn lines_are_answered_by_the_word_cel(rt: HostRuntime) -> Result<(), Fail> {
+    let alloc = rt.alloc();
+    let lines = b"{\"expr\":\"(1+2)*3\"}\n{\"expr\":\"a b\"}\nx";
+    let answers = "tree (1 + 2) * 3\nsyntax 2 S1\nbad line\n";
+    let long = around(alloc, "\n", b'x', 65_537, "")?;
+    let config = Failing { config: 0, ..NEVER };
+    let input = Failing { input: 1, ..NEVER };
+    let output = Failing { output: 0, ..NEVER };
+    let cases: [(&[u8], Failing, u8, &str); 6] = [
+        (lines, NEVER, 0, answers),
+        (lines, config, 0, answers),
+        (lines, input, 3, "tree (1 + 2) * 3\nsyntax 2 S1\n"),
+        (lines, output, 4, ""),
+        (&long, NEVER, 8, "bad line\n"),
+        (b"", NEVER, 0, ""),
+    ];
+    for (bytes, failing, status, wanted) in cases {
+        let mut source = MemSource::new(bytes.to_vec(alloc)?, vec![in alloc; failing.input]?);
+        let ran = run_with(alloc, "cel", CONFIG, &mut source, failing)?;
+        assert_eq!(rt; ran.status, status);
+        assert_eq!(rt; ran.output.as_str(), wanted);
     }
     Ok(())
 }

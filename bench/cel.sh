@@ -1,0 +1,76 @@
+#!/usr/bin/env bash
+# Lines a second and the peak of memory of `sts cel` over lines of some 60 bytes, and the time a token of texts of 32
+# and of 512 tokens, however they nest.
+. "$(dirname "$0")/setup.sh"
+python3 - "$work" <<'END'
+import json, resource, subprocess, sys, time
+work = sys.argv[1]
+
+def run(lines):
+    with open(work + '/input', 'wb') as f:
+        f.write(lines)
+    with open(work + '/input', 'rb') as source, open(work + '/output', 'wb') as sink:
+        start = time.monotonic()
+        status = subprocess.run([work + '/sts', 'cel'], stdin=source, stdout=sink).returncode
+        seconds = time.monotonic() - start
+    if status != 0:
+        sys.exit(f'status {status}')
+    return seconds
+
+def line(text):
+    return json.dumps({'expr': text}, separators=(',', ':')).encode() + b'\n'
+
+print(f"{'lines':>10} {'bytes/line':>10} {'seconds':>10} {'lines/s':>10} {'peak-KiB':>10}")
+some = b''.join(line(text) for text in [
+    'assertion.sub.startsWith("repo:octo/") && a == 17',
+    'assertion.aud in ["sts.example", "other"] || !test',
+    'groups.exists(g, g == "admins") ? "high" : "low"',
+    '(assertion.iat + 3600) * 2 <= assertion.exp - 15'])
+for count in (10000, 100000, 1000000):
+    seconds = run(some * (count // 4))
+    peak = resource.getrusage(resource.RUSAGE_CHILDREN).ru_maxrss
+    print(f'{count:10} {len(some) / 4:10.1f} {seconds:10.3f} {count / seconds:10.0f} {peak:10}', flush=True)
+
+def padded(front, unit, size, back, tokens):
+    # so many tokens: as often the unit, of this size, as there is room, and `!` before an operand where one is left
+    front_size, back_size = front[1], back[1]
+    room = tokens - front_size - back_size - 1
+    return front[0] + '!' * (room % size) + 'a' + unit * (room // size) + back[0]
+
+def lists(tokens):
+    depth = min(32, tokens // 3)
+    return padded(('[' * depth, depth), ',a', 2, (']' * depth, depth), tokens)
+
+def brackets(tokens):
+    depth = min(32, tokens // 4)
+    return '-(' * depth + '-' * (tokens - 3 * depth - 1) + 'a' + ')' * depth
+
+def products(tokens):
+    depth = min(32, tokens // 6)
+    return padded(('a*(' * depth, 3 * depth), '+a', 2, (')' * depth, depth), tokens)
+
+shapes = {
+    'a+a+a+a': lambda tokens: padded(('', 0), '+a', 2, ('', 0), tokens),
+    'a||a||a': lambda tokens: padded(('', 0), '||a', 2, ('', 0), tokens),
+    '!!!!a': lambda tokens: '!' * (tokens - 1) + 'a',
+    '----a': lambda tokens: '-' * (tokens - 1) + 'a',
+    '-(-(--a))': brackets,
+    '[[[a,a,a]]]': lists,
+    'a*(a*(a+a))': products,
+    'a?a:a?a:a': lambda tokens: padded(('', 0), '?a:a', 4, ('', 0), tokens),
+    'a.a.a.a': lambda tokens: padded(('', 0), '.a', 2, ('', 0), tokens),
+    'a[0][0]': lambda tokens: padded(('', 0), '[0]', 3, ('', 0), tokens),
+}
+print(f"\n{'text':14} {'32: ns/token':>14} {'512: ns/token':>14}")
+start = min(run(b'') for _ in range(5))
+for name, text in shapes.items():
+    costs = []
+    for tokens in (32, 512):
+        count = 1024000 // tokens
+        seconds = min(run(line(text(tokens)) * count) for _ in range(3)) - start
+        with open(work + '/output', 'rb') as answers:
+            if not answers.readline().startswith(b'tree '):
+                sys.exit(f'{name} is no text of the grammar')
+        costs.append(seconds / (tokens * count) * 1e9)
+    print(f'{name:14} {costs[0]:14.0f} {costs[1]:14.0f}', flush=True)
+END

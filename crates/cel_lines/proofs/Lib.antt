@@ -1,0 +1,3 @@
+mod Faults
+pub mod Lines
+mod Runs
