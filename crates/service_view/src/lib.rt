@@ -7,6 +7,8 @@ mod limits;
 mod pools;
 mod puts;
 mod ready_command;
+#[cfg(test)]
+mod tests;
 mod view;
 
 pub use command::Command;

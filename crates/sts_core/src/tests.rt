@@ -47,13 +47,14 @@ fn the_first_exchange_succeeds_and_its_token_is_known(rt: HostRuntime) -> Result
         return Err(Fail::from("no configuration"));
     };
     let mut sts = Sts::open(alloc, disk, &config)?;
-    let cases: [(Route, &[u8], u64, u16, usize, usize); 6] = [
+    let cases: [(Route, &[u8], u64, u16, usize, usize); 7] = [
         (Route::Introspect, TOKEN, 1_700_000_000, 200, 16, 0),
         (Route::Token, CUT, 1_700_000_000, 400, 62, 0),
         (Route::Token, EXCHANGE, 1_700_000_000, 200, 924, 1),
         (Route::Introspect, TOKEN, 1_700_000_899, 200, 308, 1),
         (Route::Introspect, TOKEN, 1_700_000_900, 200, 16, 1),
-        (Route::Check, b"{}", 1_700_000_000, 501, 46, 1),
+        (Route::Check, b"{}", 1_700_000_000, 400, 57, 1),
+        (Route::Admin, b"{}", 1_700_000_000, 401, 54, 1),
     ];
     for (route, body, at, status, size, entries) in cases {
         let request = request(alloc, route, body)?;
@@ -63,5 +64,47 @@ fn the_first_exchange_succeeds_and_its_token_is_known(rt: HostRuntime) -> Result
         assert_eq!(rt; sts.state.entry_count(), entries, "{at}");
     }
     let _disk = sts.close();
+    Ok(())
+}
+
+const ROLE: &[u8] = b"{\"kind\":\"role\",\"role\":\"roles/r\",\"permissions\":[\"a.b.get\"]}";
+
+const CHECK: &[u8] =
+    b"{\"token\":\"\",\"permission\":\"a.b.get\",\"resource\":\"//storage.googleapis.com/b\"}";
+
+// Each call of one route, with the reply that the documents of the formats give.
+#[test]
+fn calls_of_each_route(rt: HostRuntime) -> Result<(), Fail> {
+    let alloc = rt.alloc();
+    let disk = MemDisk::new(alloc, b"", 0, 0, Vec::new(alloc))?;
+    let Ok(config) = read_service_config(alloc, CONFIG) else {
+        return Err(Fail::from("no configuration"));
+    };
+    let mut sts = Sts::open(alloc, disk, &config)?;
+    let exchange = request(alloc, Route::Token, EXCHANGE)?;
+    let check = request(alloc, Route::Check, CHECK)?;
+    let introspection = request(alloc, Route::Introspect, TOKEN)?;
+    let mut command = request(alloc, Route::Admin, ROLE)?;
+    command.bearer = Some(Text::copy_of(alloc, "admin-secret-000001")?);
+    for number in 0..2u8 {
+        let want = format!(in alloc; "{{\"entry\":{number}}}")?;
+        let Ok(reply) = sts.admin(alloc, &command, 0) else {
+            return Err(Fail::from("no reply"));
+        };
+        assert!(rt; reply.body.as_slice() == want.as_bytes(), "{want}");
+    }
+    let Ok(denial) = sts.check(alloc, &check, 0) else {
+        return Err(Fail::from("no reply"));
+    };
+    assert!(rt; denial.body.as_slice() == b"{\"allowed\":false,\"reason\":\"G1\"}");
+    let Ok(issued) = sts.exchange(alloc, &exchange, 1_700_000_000) else {
+        return Err(Fail::from("no reply"));
+    };
+    assert_eq!(rt; issued.status, 200);
+    let Ok(told) = sts.introspect(alloc, &introspection, 1_700_000_000) else {
+        return Err(Fail::from("no reply"));
+    };
+    assert_eq!(rt; told.status, 200);
+    assert_eq!(rt; sts.state.entry_count(), 3);
     Ok(())
 }
