@@ -3,4 +3,5 @@ pub mod Fronts
 pub mod Ascii
 pub mod Longest
 pub mod Lexed
+mod Lossy
 pub mod Spelled

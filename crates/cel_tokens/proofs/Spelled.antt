@@ -1,9 +1,14 @@
 -- What spells a token is read as that token.
 use Rattle.std.proofs.Common.{◌≡◌, ℕ, zero, suc, ◌+◌, ◌-◌, ◌*◌, ◌^◌, ◌≤◌, ◌<◌, Bool, true, false, cond, not, ◌&&◌, ◌||◌, List, [], ◌∷◌, ◌++◌, length, take, drop, get_or, Option, Some, None, refl, sym, ap, ◌∙◌, subst, arith, rules, length-append, append_assoc, append-nil, nat_eq, nat_le, codes, IsUtf8, ◌⊎◌, inl, inr}
+use Rattle.std.specs.Bool.{⊤}
 use Rattle.std.specs.Fmt.{decimal}
 use Rattle.std.specs.List.{AllByRecursion}
+use Rattle.std.specs.Str.{bytes_eq}
 use Rattle.std.specs.Str.Lossy.{utf8_lossy}
 use Rattle.std.proofs.lemmas.Bool.Decides.{nat_tests}
+use Rattle.std.proofs.lemmas.Fmt.{digits_decimal, digits_value-decimal, decimal_nonempty}
+use Rattle.std.proofs.lemmas.Str.{utf8_lossy-IsUtf8}
+use Rattle.std.proofs.lemmas.Str.Parse.{IsNumeralModel, numerals_by_fold}
 use Rattle.cel_values.specs.declared.expr.BinaryOp.{BinaryOp}
 use Rattle.cel_values.specs.declared.expr.BinaryOp.TheVariants.{Or, And, Lt, Le, Gt, Ge, Eq, Ne, Within, Add, Sub, Mul, Div, Rem}
 use Rattle.cel_tokens.specs.declared.token.Bracket.TheVariants.{Round, Square, Curly}
@@ -11,96 +16,225 @@ use Rattle.cel_tokens.specs.declared.token.Literal.{Literal}
 use Rattle.cel_tokens.specs.declared.token.Token.{Token}
 use Rattle.cel_tokens.specs.declared.token.Piece.{Piece}
 use Rattle.cel_tokens.specs.declared.token.Lexeme.{Lexeme}
-use Rattle.cel_tokens.specs.Words.{IsFirstWord, form}
-use Rattle.cel_tokens.specs.FirstWord.{word_at}
+use Rattle.cel_tokens.specs.declared.quoted.Mode.{Mode}
+use Rattle.cel_tokens.specs.declared.quoted.TextKind.{TextKind}
+use Rattle.cel_tokens.specs.Words.{IsFirstWord, form, is_letter, is_digit, is_name_byte, is_quote, is_blank, is_hex, all_bytes, next_move, between, with_front, word_token, decimal_token, hex_token, text_token, saturated, decimal_number, one_sign, two_sign, is_reserved}
+use Rattle.cel_tokens.specs.FirstWord.{word_at, while_front, raw_at, hex_at, name_at, number_at, or_raw, or_hex, letter_at, digit_at, sign_at, piece_of}
 use Rattle.cel_tokens.specs.Lexing.{Lexes, ended, stopped, blank, token}
-use Rattle.cel_tokens.specs.Spelling.{quoted, is_name, is_reserved_name, operator, operator_token, stops, begins, HasForm}
+use Rattle.cel_tokens.specs.Spelling.{quoted_byte, quoted_bytes, quoted, is_word, is_keyword, is_name, is_reserved_name, operator, operator_token, is_stop, stops, begins, HasForm}
+use Rattle.cel_tokens.proofs.Fronts.{and_parts}
+use Rattle.cel_tokens.proofs.Longest.{first_is}
 
 -- a token and what follows it
 abbrev pub token_before : Token → List ℕ → Option (Piece × List ℕ)
 token_before t more = Some (Piece.Token t, more)
 
+chosen : {A : Type 0} (t : Bool) (x y : A) → t ≡ true → cond t x y ≡ x
+chosen true x y h = refl
+chosen false x y h = cc
+
+passed : {A : Type 0} (t : Bool) (x y : A) → t ≡ false → cond t x y ≡ y
+passed true x y h = cc
+passed false x y h = refl
+
+-- ---- runs
+
+abbrev Ends : (ℕ → Bool) → List ℕ → Type 0
+Ends p [] = ⊤
+Ends p (b ∷ bs) = p b ≡ false
+
+-- a run ends at a stop that fails its test
+ends_there : (p : ℕ → Bool) → ((b : ℕ) → is_stop b ≡ true → p b ≡ false) → (more : List ℕ) → stops more ≡ true → Ends p more
+ends_there p fails [] s = tt
+ends_there p fails (b ∷ bs) s = fails b s
+
+run_front : (p : ℕ → Bool) (w more : List ℕ) → all_bytes p w ≡ true → Ends p more → while_front p (w ++ more) ≡ (w, more)
+run_front p [] [] h e = refl
+run_front p [] (b ∷ bs) h e = passed (p b) (b ∷ (while_front p bs).0, (while_front p bs).1) ([], b ∷ bs) e
+run_front p (b ∷ w) more h e =
+    let parts = and_parts (p b) (all_bytes p w) h in
+    let r = while_front p (w ++ more) in
+    chosen (p b) (b ∷ r.0, r.1) ([], b ∷ (w ++ more)) parts.0 ∙ ap (λ (q : List ℕ × List ℕ). (b ∷ q.0, q.1)) (run_front p w more parts.1 e)
+
 -- ---- words
 
+stop_no_name : (b : ℕ) → is_stop b ≡ true → is_name_byte b ≡ false
+stop_no_name b h = grind (arith, nat_tests)
+
+stop_no_quote : (b : ℕ) → is_stop b ≡ true → is_quote b ≡ false
+stop_no_quote b h = grind (arith, nat_tests)
+
+name_no_quote : (b : ℕ) → is_name_byte b ≡ true → is_quote b ≡ false
+name_no_quote b h = grind (arith, nat_tests)
+
+no_raw : (w more : List ℕ) → all_bytes is_name_byte w ≡ true → stops more ≡ true → raw_at (w ++ more) ≡ None
+no_raw [] [] h s = refl
+no_raw [] (b ∷ bs) h s = passed (is_quote b) (between (next_move TextKind.Raw b) Mode.Plain bs) None (stop_no_quote b s)
+no_raw (b ∷ w) more h s = passed (is_quote b) (between (next_move TextKind.Raw b) Mode.Plain (w ++ more)) None (name_no_quote b (and_parts (is_name_byte b) (all_bytes is_name_byte w) h).0)
+
+letter_plain : (at b : ℕ) (bs : List ℕ) (t : Bool) → raw_at bs ≡ None → cond t (or_raw (raw_at bs) at b bs) (name_at at b bs) ≡ name_at at b bs
+letter_plain at b bs true h = ap (λ o. or_raw o at b bs) h
+letter_plain at b bs false h = refl
+
+word_read : (at b : ℕ) (w more : List ℕ) → is_letter b ≡ true → all_bytes is_name_byte w ≡ true → stops more ≡ true → word_at at (b ∷ (w ++ more)) ≡ token_before (word_token at (b ∷ w)) more
+word_read at b w more letter h s =
+    chosen (is_letter b) (piece_of (letter_at at b (w ++ more))) _ letter
+    ∙ ap piece_of (letter_plain at b (w ++ more) (nat_eq b 114) (no_raw w more h s))
+    ∙ ap (λ (q : List ℕ × List ℕ). token_before (word_token at (b ∷ q.0)) q.1) (run_front is_name_byte w more h (ends_there is_name_byte stop_no_name more s))
+
+plain_token : (at : ℕ) (w : List ℕ) (a b c d r : Bool) → not (a || b || c || d) ≡ true →
+    cond a (Token.Literal (Literal.Bool true)) (cond b (Token.Literal (Literal.Bool false)) (cond c (Token.Literal Literal.Null) (cond d (Token.Sign Within)
+    (cond r (Token.Reserved (record { at = at; text = w })) (Token.Name (record { at = at; text = w }))))))
+    ≡ cond r (Token.Reserved (record { at = at; text = w })) (Token.Name (record { at = at; text = w }))
+plain_token at w true b c d r h = cc
+plain_token at w false true c d r h = cc
+plain_token at w false false true d r h = cc
+plain_token at w false false false true r h = cc
+plain_token at w false false false false r h = refl
+
 pub name_read : (at : ℕ) (w more : List ℕ) → is_name w ≡ true → stops more ≡ true → word_at at (w ++ more) ≡ token_before (Token.Name (record { at = at; text = w })) more
-name_read at w more h s = ?
+name_read at [] more h s = cc
+name_read at (b ∷ w) more h s = ?
 
 pub reserved_read : (at : ℕ) (w more : List ℕ) → is_reserved_name w ≡ true → stops more ≡ true → word_at at (w ++ more) ≡ token_before (Token.Reserved (record { at = at; text = w })) more
-reserved_read at w more h s = ?
+reserved_read at [] more h s = cc
+reserved_read at (b ∷ w) more h s = ?
 
 pub true_read : (at : ℕ) (more : List ℕ) → stops more ≡ true → word_at at (codes "true" ++ more) ≡ token_before (Token.Literal (Literal.Bool true)) more
-true_read at more s = ?
+true_read at more s = word_read at 116 (codes "rue") more refl refl s
 
 pub false_read : (at : ℕ) (more : List ℕ) → stops more ≡ true → word_at at (codes "false" ++ more) ≡ token_before (Token.Literal (Literal.Bool false)) more
-false_read at more s = ?
+false_read at more s = word_read at 102 (codes "alse") more refl refl s
 
 pub null_read : (at : ℕ) (more : List ℕ) → stops more ≡ true → word_at at (codes "null" ++ more) ≡ token_before (Token.Literal Literal.Null) more
-null_read at more s = ?
+null_read at more s = word_read at 110 (codes "ull") more refl refl s
 
 -- ---- integers and texts
 
+own : IsNumeralModel (λ ds. all_bytes is_digit ds ≡ true) (decimal_number 0)
+own = numerals_by_fold _ (search rules) decimal_number (search rules)
+
+stop_no_digit : (b : ℕ) → is_stop b ≡ true → is_digit b ≡ false
+stop_no_digit b h = grind (arith, nat_tests)
+
+stop_no_x : (b : ℕ) → is_stop b ≡ true → nat_eq b 120 ≡ false
+stop_no_x b h = grind (arith, nat_tests)
+
+digit_no_x : (b : ℕ) → is_digit b ≡ true → nat_eq b 120 ≡ false
+digit_no_x b h = grind (arith, nat_tests)
+
+digit_no_letter : (b : ℕ) → is_digit b ≡ true → is_letter b ≡ false
+digit_no_letter b h = grind (arith, nat_tests)
+
+no_mark : (x : ℕ) (bs : List ℕ) → nat_eq x 120 ≡ false → hex_at (x ∷ bs) ≡ None
+no_mark x [] h = refl
+no_mark x (b ∷ bs) h = passed (nat_eq x 120) (cond (is_hex b) (Some (b ∷ (while_front is_hex bs).0, (while_front is_hex bs).1)) None) None h
+
+no_hex : (ds more : List ℕ) → all_bytes is_digit ds ≡ true → stops more ≡ true → hex_at (ds ++ more) ≡ None
+no_hex [] [] h s = refl
+no_hex [] (b ∷ bs) h s = no_mark b bs (stop_no_x b s)
+no_hex (d ∷ ds) more h s = no_mark d (ds ++ more) (digit_no_x d (and_parts (is_digit d) (all_bytes is_digit ds) h).0)
+
+digit_plain : (b : ℕ) (bs : List ℕ) (t : Bool) → hex_at bs ≡ None → cond t (or_hex (hex_at bs) b bs) (number_at b bs) ≡ number_at b bs
+digit_plain b bs true h = ap (λ o. or_hex o b bs) h
+digit_plain b bs false h = refl
+
+digits_read : (at : ℕ) (ds more : List ℕ) → all_bytes is_digit ds ≡ true → 0 < length ds → stops more ≡ true → word_at at (ds ++ more) ≡ token_before (decimal_token ds) more
+digits_read at [] more h some s = absurd (omega arith)
+digits_read at (d ∷ ds) more h some s =
+    let parts = and_parts (is_digit d) (all_bytes is_digit ds) h in
+    passed (is_letter d) (piece_of (letter_at at d (ds ++ more))) _ (digit_no_letter d parts.0)
+    ∙ chosen (is_digit d) (piece_of (digit_at d (ds ++ more))) _ parts.0
+    ∙ ap piece_of (digit_plain d (ds ++ more) (nat_eq d 48) (no_hex ds more parts.1 s))
+    ∙ ap (λ (q : List ℕ × List ℕ). token_before (decimal_token (d ∷ q.0)) q.1) (run_front is_digit ds more parts.1 (ends_there is_digit stop_no_digit more s))
+
+fits : (n : ℕ) → n < 2 ^ 64 → saturated n ≡ n
+fits n h = omega arith
+
 pub integer_read : (at n : ℕ) (more : List ℕ) → n < 2 ^ 64 → stops more ≡ true → word_at at (decimal n ++ more) ≡ token_before (Token.Integer n) more
-integer_read at n more h s = ?
+integer_read at n more h s =
+    digits_read at (decimal n) more (digits_decimal own n h) (decimal_nonempty n h) s
+    ∙ ap (λ v. token_before (Token.Integer v) more) (ap saturated (digits_value-decimal own n h) ∙ fits n h)
+
+no_front : (o : Option (List ℕ × List ℕ)) → with_front [] o ≡ o
+no_front None = refl
+no_front (Some r) = refl
+
+next_text : Mode → List ℕ → Option (List ℕ × List ℕ)
+next_text mode bs = between (next_move TextKind.Escaped 34) mode bs
 
 pub text_read : (at : ℕ) (t more : List ℕ) → IsUtf8 t → word_at at (quoted t ++ more) ≡ token_before (Token.Literal (Literal.Text t)) more
 text_read at t more u = ?
 
 -- ---- signs
 
+-- a byte that begins no sign of two
+lone_sign : (b : ℕ) (t : Token) → ((c : ℕ) → two_sign b c ≡ None) → one_sign b ≡ Some t → (more : List ℕ) → piece_of (sign_at b more) ≡ token_before t more
+lone_sign b t two one [] = ?
+lone_sign b t two one (c ∷ bs) = ?
+
 pub open_round_read : (at : ℕ) (more : List ℕ) → word_at at (codes "(" ++ more) ≡ token_before (Token.Open Round) more
-open_round_read at more = ?
+open_round_read at more = lone_sign 40 (Token.Open Round) (λ c. refl) refl more
 
 pub close_round_read : (at : ℕ) (more : List ℕ) → word_at at (codes ")" ++ more) ≡ token_before (Token.Close Round) more
-close_round_read at more = ?
+close_round_read at more = lone_sign 41 (Token.Close Round) (λ c. refl) refl more
 
 pub open_square_read : (at : ℕ) (more : List ℕ) → word_at at (codes "[" ++ more) ≡ token_before (Token.Open Square) more
-open_square_read at more = ?
+open_square_read at more = lone_sign 91 (Token.Open Square) (λ c. refl) refl more
 
 pub close_square_read : (at : ℕ) (more : List ℕ) → word_at at (codes "]" ++ more) ≡ token_before (Token.Close Square) more
-close_square_read at more = ?
+close_square_read at more = lone_sign 93 (Token.Close Square) (λ c. refl) refl more
 
 pub open_curly_read : (at : ℕ) (more : List ℕ) → word_at at (codes "{" ++ more) ≡ token_before (Token.Open Curly) more
-open_curly_read at more = ?
+open_curly_read at more = lone_sign 123 (Token.Open Curly) (λ c. refl) refl more
 
 pub close_curly_read : (at : ℕ) (more : List ℕ) → word_at at (codes "}" ++ more) ≡ token_before (Token.Close Curly) more
-close_curly_read at more = ?
+close_curly_read at more = lone_sign 125 (Token.Close Curly) (λ c. refl) refl more
 
 pub comma_read : (at : ℕ) (more : List ℕ) → word_at at (codes "," ++ more) ≡ token_before Token.Comma more
-comma_read at more = ?
+comma_read at more = lone_sign 44 Token.Comma (λ c. refl) refl more
 
 pub dot_read : (at : ℕ) (more : List ℕ) → word_at at (codes "." ++ more) ≡ token_before Token.Dot more
-dot_read at more = ?
+dot_read at more = lone_sign 46 Token.Dot (λ c. refl) refl more
 
 pub colon_read : (at : ℕ) (more : List ℕ) → word_at at (codes ":" ++ more) ≡ token_before Token.Colon more
-colon_read at more = ?
+colon_read at more = lone_sign 58 Token.Colon (λ c. refl) refl more
 
 pub question_read : (at : ℕ) (more : List ℕ) → word_at at (codes "?" ++ more) ≡ token_before Token.Question more
-question_read at more = ?
+question_read at more = lone_sign 63 Token.Question (λ c. refl) refl more
 
 pub minus_read : (at : ℕ) (more : List ℕ) → word_at at (codes "-" ++ more) ≡ token_before Token.Minus more
-minus_read at more = ?
+minus_read at more = lone_sign 45 Token.Minus (λ c. refl) refl more
 
 pub bang_read : (at : ℕ) (more : List ℕ) → begins 61 more ≡ false → word_at at (codes "!" ++ more) ≡ token_before Token.Bang more
-bang_read at more h = ?
+bang_read at [] h = refl
+bang_read at (c ∷ bs) h = ?
 
 -- an operator of two operands in front of a space
 pub operator_read : (op : BinaryOp) (at : ℕ) (more : List ℕ) → word_at at (operator op ++ (codes " " ++ more)) ≡ token_before (operator_token op) (codes " " ++ more)
-operator_read op at more = ?
+operator_read Within at more = word_read at 105 (codes "n") (codes " " ++ more) refl refl refl
+operator_read op at more = refl
 
 pub space_read : (at : ℕ) (more : List ℕ) → word_at at (codes " " ++ more) ≡ Some (Piece.Blank, more)
-space_read at more = ?
+space_read at more = refl
 
 -- ---- the tokens of a text that begins with a word
 
-pub lexed_token : {at : ℕ} {w more : List ℕ} {t : Token} {tokens : List Lexeme} {stop : Option ℕ} → word_at at (w ++ more) ≡ token_before t more → Lexes (at + length w) more tokens stop →
-    Lexes at (w ++ more) (record { at = at; token = t } ∷ tokens) stop
-lexed_token {at} {w} {more} {t} {tokens} {stop} is d = ?
+first_of : (at : ℕ) (text more : List ℕ) (p : Piece) → word_at at text ≡ Some (p, more) → (word : List ℕ) × IsFirstWord at text word more p
+first_of at text more p is = ?
 
-pub lexed_blank : {at : ℕ} {w more : List ℕ} {tokens : List Lexeme} {stop : Option ℕ} → word_at at (w ++ more) ≡ Some (Piece.Blank, more) → Lexes (at + length w) more tokens stop → Lexes at (w ++ more) tokens stop
-lexed_blank {at} {w} {more} {tokens} {stop} is d = ?
+same_length : (w word more : List ℕ) → w ++ more ≡ word ++ more → length w ≡ length word
+same_length w word more h = omega (arith, ap length h, length-append w more, length-append word more)
+
+pub lexed_token : {at : ℕ} (w : List ℕ) {more : List ℕ} {t : Token} {tokens : List Lexeme} {stop : Option ℕ} → word_at at (w ++ more) ≡ token_before t more → Lexes (at + length w) more tokens stop →
+    Lexes at (w ++ more) (record { at = at; token = t } ∷ tokens) stop
+lexed_token {at} w {more} {t} {tokens} {stop} is d = ?
+
+pub lexed_blank : {at : ℕ} (w : List ℕ) {more : List ℕ} {tokens : List Lexeme} {stop : Option ℕ} → word_at at (w ++ more) ≡ Some (Piece.Blank, more) → Lexes (at + length w) more tokens stop → Lexes at (w ++ more) tokens stop
+lexed_blank {at} w {more} {tokens} {stop} is d = ?
 
 pub lexed_space : {at : ℕ} {more : List ℕ} {tokens : List Lexeme} {stop : Option ℕ} → Lexes (at + 1) more tokens stop → Lexes at (codes " " ++ more) tokens stop
-lexed_space {at} {more} {tokens} {stop} d = ?
+lexed_space {at} {more} {tokens} {stop} d = lexed_blank (codes " ") (space_read at more) d
 
 -- ---- what a text spells has a form
 
