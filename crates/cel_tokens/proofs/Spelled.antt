@@ -19,7 +19,7 @@ use Rattle.cel_tokens.specs.declared.token.Lexeme.{Lexeme}
 use Rattle.cel_tokens.specs.declared.quoted.Mode.{Mode}
 use Rattle.cel_tokens.specs.declared.quoted.TextKind.{TextKind}
 use Rattle.cel_tokens.specs.Words.{IsFirstWord, form, is_letter, is_digit, is_name_byte, is_quote, is_blank, is_hex, all_bytes, next_move, between, with_front, word_token, decimal_token, hex_token, text_token, saturated, decimal_number, one_sign, two_sign, is_reserved}
-use Rattle.cel_tokens.specs.FirstWord.{word_at, while_front, raw_at, hex_at, name_at, number_at, or_raw, or_hex, letter_at, digit_at, sign_at, piece_of}
+use Rattle.cel_tokens.specs.FirstWord.{word_at, while_front, raw_at, hex_at, name_at, number_at, or_raw, or_hex, letter_at, digit_at, sign_at, piece_of, quoted as text_found, before, or_one, IsFirst}
 use Rattle.cel_tokens.specs.Lexing.{Lexes, ended, stopped, blank, token}
 use Rattle.cel_tokens.specs.Spelling.{quoted_byte, quoted_bytes, quoted, is_word, is_keyword, is_name, is_reserved_name, operator, operator_token, is_stop, stops, begins, HasForm}
 use Rattle.cel_tokens.proofs.Fronts.{and_parts}
@@ -32,6 +32,9 @@ token_before t more = Some (Piece.Token t, more)
 chosen : {A : Type 0} (t : Bool) (x y : A) → t ≡ true → cond t x y ≡ x
 chosen true x y h = refl
 chosen false x y h = cc
+
+eq_from : (a b : ℕ) → nat_eq a b ≡ true → a ≡ b
+eq_from a b h = grind (arith, nat_tests)
 
 passed : {A : Type 0} (t : Bool) (x y : A) → t ≡ false → cond t x y ≡ y
 passed true x y h = cc
@@ -92,13 +95,33 @@ plain_token at w false false true d r h = cc
 plain_token at w false false false true r h = cc
 plain_token at w false false false false r h = refl
 
+abbrev name_or_reserved : ℕ → List ℕ → Bool → Token
+name_or_reserved at w r = cond r (Token.Reserved (record { at = at; text = w })) (Token.Name (record { at = at; text = w }))
+
+plain_word : (at : ℕ) (w : List ℕ) → not (is_keyword w) ≡ true → word_token at w ≡ name_or_reserved at w (is_reserved w)
+plain_word at w h = plain_token at w (bytes_eq w (codes "true")) (bytes_eq w (codes "false")) (bytes_eq w (codes "null")) (bytes_eq w (codes "in")) (is_reserved w) h
+
+not_false : (t : Bool) → not t ≡ true → t ≡ false
+not_false true h = cc
+not_false false h = refl
+
 pub name_read : (at : ℕ) (w more : List ℕ) → is_name w ≡ true → stops more ≡ true → word_at at (w ++ more) ≡ token_before (Token.Name (record { at = at; text = w })) more
 name_read at [] more h s = cc
-name_read at (b ∷ w) more h s = ?
+name_read at (b ∷ w) more h s =
+    let parts = and_parts (is_word (b ∷ w) && not (is_keyword (b ∷ w))) (not (is_reserved (b ∷ w))) h in
+    let plain = and_parts (is_word (b ∷ w)) (not (is_keyword (b ∷ w))) parts.0 in
+    let bytes = and_parts (is_letter b) (all_bytes is_name_byte w) plain.0 in
+    word_read at b w more bytes.0 bytes.1 s
+    ∙ ap (λ t. token_before t more) (plain_word at (b ∷ w) plain.1 ∙ passed (is_reserved (b ∷ w)) _ (Token.Name (record { at = at; text = b ∷ w })) (not_false (is_reserved (b ∷ w)) parts.1))
 
 pub reserved_read : (at : ℕ) (w more : List ℕ) → is_reserved_name w ≡ true → stops more ≡ true → word_at at (w ++ more) ≡ token_before (Token.Reserved (record { at = at; text = w })) more
 reserved_read at [] more h s = cc
-reserved_read at (b ∷ w) more h s = ?
+reserved_read at (b ∷ w) more h s =
+    let parts = and_parts (is_word (b ∷ w) && not (is_keyword (b ∷ w))) (is_reserved (b ∷ w)) h in
+    let plain = and_parts (is_word (b ∷ w)) (not (is_keyword (b ∷ w))) parts.0 in
+    let bytes = and_parts (is_letter b) (all_bytes is_name_byte w) plain.0 in
+    word_read at b w more bytes.0 bytes.1 s
+    ∙ ap (λ t. token_before t more) (plain_word at (b ∷ w) plain.1 ∙ chosen (is_reserved (b ∷ w)) (Token.Reserved (record { at = at; text = b ∷ w })) _ parts.1)
 
 pub true_read : (at : ℕ) (more : List ℕ) → stops more ≡ true → word_at at (codes "true" ++ more) ≡ token_before (Token.Literal (Literal.Bool true)) more
 true_read at more s = word_read at 116 (codes "rue") more refl refl s
@@ -160,18 +183,41 @@ no_front : (o : Option (List ℕ × List ℕ)) → with_front [] o ≡ o
 no_front None = refl
 no_front (Some r) = refl
 
-next_text : Mode → List ℕ → Option (List ℕ × List ℕ)
-next_text mode bs = between (next_move TextKind.Escaped 34) mode bs
+-- what stands before a double quote
+abbrev inside : Mode → List ℕ → Option (List ℕ × List ℕ)
+inside mode bs = between (next_move TextKind.Escaped 34) mode bs
+
+escape_back : (b : ℕ) (more : List ℕ) → with_front [] (with_front (b ∷ []) (inside Mode.Plain more)) ≡ with_front (b ∷ []) (inside Mode.Plain more)
+escape_back b more = no_front (with_front (b ∷ []) (inside Mode.Plain more))
+
+plain_back : (b : ℕ) (more : List ℕ) (s q n r t : Bool) → s ≡ nat_eq b 92 → q ≡ nat_eq b 34 → n ≡ nat_eq b 10 → r ≡ nat_eq b 13 → t ≡ nat_eq b 9 →
+    inside Mode.Plain (cond s (92 ∷ 92 ∷ []) (cond q (92 ∷ 34 ∷ []) (cond n (92 ∷ 110 ∷ []) (cond r (92 ∷ 114 ∷ []) (cond t (92 ∷ 116 ∷ []) (b ∷ []))))) ++ more) ≡ with_front (b ∷ []) (inside Mode.Plain more)
+plain_back b more true q n r t s' q' n' r' t' = rw (eq_from b 92 (sym s')) (escape_back 92 more)
+plain_back b more false true n r t s' q' n' r' t' = rw (eq_from b 34 (sym q')) (escape_back 34 more)
+plain_back b more false false true r t s' q' n' r' t' = rw (eq_from b 10 (sym n')) (escape_back 10 more)
+plain_back b more false false false true t s' q' n' r' t' = rw (eq_from b 13 (sym r')) (escape_back 13 more)
+plain_back b more false false false false true s' q' n' r' t' = rw (eq_from b 9 (sym t')) (escape_back 9 more)
+plain_back b more false false false false false s' q' n' r' t' = rw (← q', ← n', ← r', ← s') refl
+
+byte_back : (b : ℕ) (more : List ℕ) → inside Mode.Plain (quoted_byte b ++ more) ≡ with_front (b ∷ []) (inside Mode.Plain more)
+byte_back b more = plain_back b more (nat_eq b 92) (nat_eq b 34) (nat_eq b 10) (nat_eq b 13) (nat_eq b 9) refl refl refl refl refl
+
+bytes_back : (t more : List ℕ) → inside Mode.Plain (quoted_bytes t ++ (34 ∷ more)) ≡ Some (t, more)
+bytes_back [] more = refl
+bytes_back (b ∷ t) more =
+    ap (inside Mode.Plain) (append_assoc (quoted_byte b) (quoted_bytes t) (34 ∷ more)) ∙ byte_back b (quoted_bytes t ++ (34 ∷ more)) ∙ ap (with_front (b ∷ [])) (bytes_back t more)
 
 pub text_read : (at : ℕ) (t more : List ℕ) → IsUtf8 t → word_at at (quoted t ++ more) ≡ token_before (Token.Literal (Literal.Text t)) more
-text_read at t more u = ?
+text_read at t more u =
+    ap (λ l. word_at at (34 ∷ l)) (append_assoc (quoted_bytes t) (34 ∷ []) more)
+    ∙ ap (λ o. piece_of (text_found o)) (bytes_back t more) ∙ ap (λ v. token_before (Token.Literal (Literal.Text v)) more) (utf8_lossy-IsUtf8 t u)
 
 -- ---- signs
 
 -- a byte that begins no sign of two
 lone_sign : (b : ℕ) (t : Token) → ((c : ℕ) → two_sign b c ≡ None) → one_sign b ≡ Some t → (more : List ℕ) → piece_of (sign_at b more) ≡ token_before t more
-lone_sign b t two one [] = ?
-lone_sign b t two one (c ∷ bs) = ?
+lone_sign b t two one [] = ap (λ o. piece_of (before [] o)) one
+lone_sign b t two one (c ∷ bs) = ap (λ o. piece_of (or_one o b c bs)) (two c) ∙ ap (λ o. piece_of (before (c ∷ bs) o)) one
 
 pub open_round_read : (at : ℕ) (more : List ℕ) → word_at at (codes "(" ++ more) ≡ token_before (Token.Open Round) more
 open_round_read at more = lone_sign 40 (Token.Open Round) (λ c. refl) refl more
@@ -208,7 +254,7 @@ minus_read at more = lone_sign 45 Token.Minus (λ c. refl) refl more
 
 pub bang_read : (at : ℕ) (more : List ℕ) → begins 61 more ≡ false → word_at at (codes "!" ++ more) ≡ token_before Token.Bang more
 bang_read at [] h = refl
-bang_read at (c ∷ bs) h = ?
+bang_read at (c ∷ bs) h = ap (λ t. piece_of (or_one (cond t (Some (Token.Sign Ne)) None) 33 c bs)) h
 
 -- an operator of two operands in front of a space
 pub operator_read : (op : BinaryOp) (at : ℕ) (more : List ℕ) → word_at at (operator op ++ (codes " " ++ more)) ≡ token_before (operator_token op) (codes " " ++ more)
@@ -221,17 +267,21 @@ space_read at more = refl
 -- ---- the tokens of a text that begins with a word
 
 first_of : (at : ℕ) (text more : List ℕ) (p : Piece) → word_at at text ≡ Some (p, more) → (word : List ℕ) × IsFirstWord at text word more p
-first_of at text more p is = ?
+first_of at text more p is = subst (λ o. IsFirst at text o) is (first_is at text)
 
 same_length : (w word more : List ℕ) → w ++ more ≡ word ++ more → length w ≡ length word
 same_length w word more h = omega (arith, ap length h, length-append w more, length-append word more)
 
 pub lexed_token : {at : ℕ} (w : List ℕ) {more : List ℕ} {t : Token} {tokens : List Lexeme} {stop : Option ℕ} → word_at at (w ++ more) ≡ token_before t more → Lexes (at + length w) more tokens stop →
     Lexes at (w ++ more) (record { at = at; token = t } ∷ tokens) stop
-lexed_token {at} w {more} {t} {tokens} {stop} is d = ?
+lexed_token {at} w {more} {t} {tokens} {stop} is d =
+    let f = first_of at (w ++ more) more (Piece.Token t) is in
+    token f.1 (subst (λ n. Lexes (at + n) more tokens stop) (same_length w f.0 more f.1.front) d)
 
 pub lexed_blank : {at : ℕ} (w : List ℕ) {more : List ℕ} {tokens : List Lexeme} {stop : Option ℕ} → word_at at (w ++ more) ≡ Some (Piece.Blank, more) → Lexes (at + length w) more tokens stop → Lexes at (w ++ more) tokens stop
-lexed_blank {at} w {more} {tokens} {stop} is d = ?
+lexed_blank {at} w {more} {tokens} {stop} is d =
+    let f = first_of at (w ++ more) more Piece.Blank is in
+    blank f.1 (subst (λ n. Lexes (at + n) more tokens stop) (same_length w f.0 more f.1.front) d)
 
 pub lexed_space : {at : ℕ} {more : List ℕ} {tokens : List Lexeme} {stop : Option ℕ} → Lexes (at + 1) more tokens stop → Lexes at (codes " " ++ more) tokens stop
 lexed_space {at} {more} {tokens} {stop} d = lexed_blank (codes " ") (space_read at more) d
