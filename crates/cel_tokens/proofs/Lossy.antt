@@ -5,6 +5,7 @@ use Rattle.std.specs.Option.{unwrap_or}
 use Rattle.std.specs.Str.{is_utf8}
 use Rattle.std.proofs.Math.Seq.{take-length}
 use Rattle.std.specs.Str.Lossy.{utf8_lossy, utf8_valid_len, valid_len_up_to, second_byte_min, second_byte_max, error_len_after_two, error_len_after_one, error_len_of_some, utf8_error_len, utf8_invalid_len, after_first_chunk, replacement_bytes}
+use Rattle.cel_tokens.proofs.Fronts.{either}
 use Rattle.std.proofs.lemmas.Str.{IsUtf8-from_is_utf8, IsUtf8-append, IsUtf8-nil, utf8_valid_len_le, utf8_lossy-IsUtf8, utf8_lossy_step}
 
 front_at : (bs : List ℕ) (n : ℕ) (t : Bool) → is_utf8 (take (suc n) bs) ≡ t → IsUtf8 (take (valid_len_up_to bs n) bs) → IsUtf8 (take (cond t (suc n) (valid_len_up_to bs n)) bs)
@@ -20,15 +21,12 @@ unfolding utf8_valid_len
 valid_front bs = front_up_to bs (length bs)
 
 replaced : IsUtf8 replacement_bytes
+unfolding lib.Utf8.encode
 replaced = (0xFFFD ∷ [], (refl, refl))
 
 -- a count of bytes, where there are some
 abbrev IsSomeOf : List ℕ → Option ℕ → Type 0
 IsSomeOf bs o = 0 < unwrap_or o (length bs)
-
-either : {A : Type 0} (P : A → Type 0) (t : Bool) (x y : A) → P x → P y → P (cond t x y)
-either P true x y p q = p
-either P false x y p q = q
 
 invalid_some : (bs : List ℕ) → 0 < length bs → 0 < utf8_invalid_len bs
 unfolding utf8_error_len
