@@ -5,3 +5,4 @@ pub mod Longest
 pub mod Lexed
 mod Lossy
 pub mod Spelled
+pub mod Formed

@@ -1,16 +1,14 @@
 -- What spells a token is read as that token.
-use Rattle.std.proofs.Common.{◌≡◌, ℕ, zero, suc, ◌+◌, ◌-◌, ◌*◌, ◌^◌, ◌≤◌, ◌<◌, Bool, true, false, cond, not, ◌&&◌, ◌||◌, List, [], ◌∷◌, ◌++◌, length, take, drop, get_or, Option, Some, None, refl, sym, ap, ◌∙◌, subst, arith, rules, length-append, append_assoc, append-nil, nat_eq, nat_le, codes, IsUtf8, ◌⊎◌, inl, inr}
+use Rattle.std.proofs.Common.{◌≡◌, ℕ, ◌+◌, ◌^◌, ◌<◌, Bool, true, false, cond, not, ◌&&◌, ◌||◌, List, [], ◌∷◌, ◌++◌, length, Option, Some, None, refl, sym, ap, ◌∙◌, subst, arith, rules, length-append, append_assoc, nat_eq, codes, IsUtf8}
 use Rattle.std.specs.Bool.{⊤}
 use Rattle.std.specs.Fmt.{decimal}
-use Rattle.std.specs.List.{AllByRecursion}
 use Rattle.std.specs.Str.{bytes_eq}
-use Rattle.std.specs.Str.Lossy.{utf8_lossy}
 use Rattle.std.proofs.lemmas.Bool.Decides.{nat_tests}
 use Rattle.std.proofs.lemmas.Fmt.{digits_decimal, digits_value-decimal, decimal_nonempty}
 use Rattle.std.proofs.lemmas.Str.{utf8_lossy-IsUtf8}
 use Rattle.std.proofs.lemmas.Str.Parse.{IsNumeralModel, numerals_by_fold}
 use Rattle.cel_values.specs.declared.expr.BinaryOp.{BinaryOp}
-use Rattle.cel_values.specs.declared.expr.BinaryOp.TheVariants.{Or, And, Lt, Le, Gt, Ge, Eq, Ne, Within, Add, Sub, Mul, Div, Rem}
+use Rattle.cel_values.specs.declared.expr.BinaryOp.TheVariants.{Ne, Within}
 use Rattle.cel_tokens.specs.declared.token.Bracket.TheVariants.{Round, Square, Curly}
 use Rattle.cel_tokens.specs.declared.token.Literal.{Literal}
 use Rattle.cel_tokens.specs.declared.token.Token.{Token}
@@ -18,28 +16,17 @@ use Rattle.cel_tokens.specs.declared.token.Piece.{Piece}
 use Rattle.cel_tokens.specs.declared.token.Lexeme.{Lexeme}
 use Rattle.cel_tokens.specs.declared.quoted.Mode.{Mode}
 use Rattle.cel_tokens.specs.declared.quoted.TextKind.{TextKind}
-use Rattle.cel_tokens.specs.Words.{IsFirstWord, form, is_letter, is_digit, is_name_byte, is_quote, is_blank, is_hex, all_bytes, next_move, between, with_front, word_token, decimal_token, hex_token, text_token, saturated, decimal_number, hex_number, one_sign, two_sign, bracket_sign, mark_sign, is_reserved, is_in_line, closed_at, closed, raw_form, hex_form, letter_form, digit_form, quote_form, sign_form, slash_form, blank_form, as_piece}
-use Rattle.cel_tokens.specs.FirstWord.{word_at, while_front, raw_at, hex_at, name_at, number_at, or_raw, or_hex, letter_at, digit_at, sign_at, piece_of, quoted as text_found, before, or_one, IsFirst}
-use Rattle.cel_tokens.specs.Lexing.{Lexes, ended, stopped, blank, token}
-use Rattle.cel_tokens.specs.Spelling.{quoted_byte, quoted_bytes, quoted, is_word, is_keyword, is_name, is_reserved_name, operator, operator_token, is_stop, stops, begins, HasForm}
-use Rattle.cel_tokens.proofs.Fronts.{and_parts, either}
-use Rattle.cel_tokens.proofs.Lossy.{IsUtf8-utf8_lossy}
-use Rattle.cel_tokens.proofs.Longest.{first_is}
+use Rattle.cel_tokens.specs.Words.{is_letter, is_digit, is_name_byte, is_quote, is_hex, all_bytes, next_move, between, with_front, word_token, decimal_token, saturated, decimal_number, one_sign, two_sign, is_reserved, is_control_word, is_declaring_word}
+use Rattle.cel_tokens.specs.FirstWord.{word_at, while_front, raw_at, hex_at, name_at, number_at, or_raw, or_hex, letter_at, digit_at, sign_at, piece_of, quoted as text_found, before, or_one}
+use Rattle.cel_tokens.specs.Lexing.{Lexes, blank, token}
+use Rattle.cel_tokens.specs.Spelling.{quoted_byte, quoted_bytes, quoted, is_word, is_keyword, is_name, is_reserved_name, operator, operator_token, is_stop, stops, begins}
+use Rattle.cel_tokens.proofs.Fronts.{and_parts, chosen, passed}
+use Rattle.cel_tokens.proofs.Longest.{eq_from}
+use Rattle.cel_tokens.proofs.Lexed.{first_of}
 
 -- a token and what follows it
 abbrev pub token_before : Token → List ℕ → Option (Piece × List ℕ)
 token_before t more = Some (Piece.Token t, more)
-
-chosen : {A : Type 0} (t : Bool) (x y : A) → t ≡ true → cond t x y ≡ x
-chosen true x y h = refl
-chosen false x y h = cc
-
-eq_from : (a b : ℕ) → nat_eq a b ≡ true → a ≡ b
-eq_from a b h = grind (arith, nat_tests)
-
-passed : {A : Type 0} (t : Bool) (x y : A) → t ≡ false → cond t x y ≡ y
-passed true x y h = cc
-passed false x y h = refl
 
 -- ---- runs
 
@@ -86,18 +73,16 @@ word_read at b w more letter h s =
     ∙ ap piece_of (letter_plain at b (w ++ more) (nat_eq b 114) (no_raw w more h s))
     ∙ ap (λ (q : List ℕ × List ℕ). token_before (word_token at (b ∷ q.0)) q.1) (run_front is_name_byte w more h (ends_there is_name_byte stop_no_name more s))
 
+abbrev pub name_or_reserved : ℕ → List ℕ → Bool → Token
+name_or_reserved at w r = cond r (Token.Reserved (record { at = at; text = w })) (Token.Name (record { at = at; text = w }))
+
 plain_token : (at : ℕ) (w : List ℕ) (a b c d r : Bool) → not (a || b || c || d) ≡ true →
-    cond a (Token.Literal (Literal.Bool true)) (cond b (Token.Literal (Literal.Bool false)) (cond c (Token.Literal Literal.Null) (cond d (Token.Sign Within)
-    (cond r (Token.Reserved (record { at = at; text = w })) (Token.Name (record { at = at; text = w }))))))
-    ≡ cond r (Token.Reserved (record { at = at; text = w })) (Token.Name (record { at = at; text = w }))
+    cond a (Token.Literal (Literal.Bool true)) (cond b (Token.Literal (Literal.Bool false)) (cond c (Token.Literal Literal.Null) (cond d (Token.Sign Within) (name_or_reserved at w r)))) ≡ name_or_reserved at w r
 plain_token at w true b c d r h = cc
 plain_token at w false true c d r h = cc
 plain_token at w false false true d r h = cc
 plain_token at w false false false true r h = cc
 plain_token at w false false false false r h = refl
-
-abbrev name_or_reserved : ℕ → List ℕ → Bool → Token
-name_or_reserved at w r = cond r (Token.Reserved (record { at = at; text = w })) (Token.Name (record { at = at; text = w }))
 
 plain_word : (at : ℕ) (w : List ℕ) → not (is_keyword w) ≡ true → word_token at w ≡ name_or_reserved at w (is_reserved w)
 plain_word at w h = plain_token at w (bytes_eq w (codes "true")) (bytes_eq w (codes "false")) (bytes_eq w (codes "null")) (bytes_eq w (codes "in")) (is_reserved w) h
@@ -124,6 +109,37 @@ reserved_read at (b ∷ w) more h s =
     word_read at b w more bytes.0 bytes.1 s
     ∙ ap (λ t. token_before t more) (plain_word at (b ∷ w) plain.1 ∙ chosen (is_reserved (b ∷ w)) (Token.Reserved (record { at = at; text = b ∷ w })) _ parts.1)
 
+pub name_is_word : (w : List ℕ) → is_name w ≡ true → is_word w ≡ true
+name_is_word w h = (and_parts (is_word w) (not (is_keyword w)) (and_parts (is_word w && not (is_keyword w)) (not (is_reserved w)) h).0).0
+
+pub reserved_is_word : (w : List ℕ) → is_reserved_name w ≡ true → is_word w ≡ true
+reserved_is_word w h = (and_parts (is_word w) (not (is_keyword w)) (and_parts (is_word w && not (is_keyword w)) (is_reserved w) h).0).0
+
+-- the names of the language's own functions
+pub has_name : is_name (codes "has") ≡ true
+unfolding is_control_word is_declaring_word
+has_name = refl
+
+pub all_name : is_name (codes "all") ≡ true
+unfolding is_control_word is_declaring_word
+all_name = refl
+
+pub exists_name : is_name (codes "exists") ≡ true
+unfolding is_control_word is_declaring_word
+exists_name = refl
+
+pub exists_one_name : is_name (codes "exists_one") ≡ true
+unfolding is_control_word is_declaring_word
+exists_one_name = refl
+
+pub filter_name : is_name (codes "filter") ≡ true
+unfolding is_control_word is_declaring_word
+filter_name = refl
+
+pub map_name : is_name (codes "map") ≡ true
+unfolding is_control_word is_declaring_word
+map_name = refl
+
 pub true_read : (at : ℕ) (more : List ℕ) → stops more ≡ true → word_at at (codes "true" ++ more) ≡ token_before (Token.Literal (Literal.Bool true)) more
 true_read at more s = word_read at 116 (codes "rue") more refl refl s
 
@@ -132,6 +148,9 @@ false_read at more s = word_read at 102 (codes "alse") more refl refl s
 
 pub null_read : (at : ℕ) (more : List ℕ) → stops more ≡ true → word_at at (codes "null" ++ more) ≡ token_before (Token.Literal Literal.Null) more
 null_read at more s = word_read at 110 (codes "ull") more refl refl s
+
+pub in_read : (at : ℕ) (more : List ℕ) → stops more ≡ true → word_at at (codes "in" ++ more) ≡ token_before (Token.Sign Within) more
+in_read at more s = word_read at 105 (codes "n") more refl refl s
 
 -- ---- integers and texts
 
@@ -257,18 +276,33 @@ pub bang_read : (at : ℕ) (more : List ℕ) → begins 61 more ≡ false → wo
 bang_read at [] h = refl
 bang_read at (c ∷ bs) h = ap (λ t. piece_of (or_one (cond t (Some (Token.Sign Ne)) None) 33 c bs)) h
 
+-- what no `=` begins
+letter_no_equals : (b : ℕ) → is_letter b ≡ true → nat_eq b 61 ≡ false
+letter_no_equals b h = grind (arith, nat_tests)
+
+digit_no_equals : (b : ℕ) → is_digit b ≡ true → nat_eq b 61 ≡ false
+digit_no_equals b h = grind (arith, nat_tests)
+
+pub word_begins : (w more : List ℕ) → is_word w ≡ true → begins 61 (w ++ more) ≡ false
+word_begins [] more h = cc
+word_begins (b ∷ w) more h = letter_no_equals b (and_parts (is_letter b) (all_bytes is_name_byte w) h).0
+
+digits_begin : (ds more : List ℕ) → all_bytes is_digit ds ≡ true → 0 < length ds → begins 61 (ds ++ more) ≡ false
+digits_begin [] more h some = absurd (omega arith)
+digits_begin (d ∷ ds) more h some = digit_no_equals d (and_parts (is_digit d) (all_bytes is_digit ds) h).0
+
+pub integer_begins : (n : ℕ) (more : List ℕ) → n < 2 ^ 64 → begins 61 (decimal n ++ more) ≡ false
+integer_begins n more h = digits_begin (decimal n) more (digits_decimal own n h) (decimal_nonempty n h)
+
 -- an operator of two operands in front of a space
 pub operator_read : (op : BinaryOp) (at : ℕ) (more : List ℕ) → word_at at (operator op ++ (codes " " ++ more)) ≡ token_before (operator_token op) (codes " " ++ more)
-operator_read Within at more = word_read at 105 (codes "n") (codes " " ++ more) refl refl refl
+operator_read Within at more = in_read at (codes " " ++ more) refl
 operator_read op at more = refl
 
 pub space_read : (at : ℕ) (more : List ℕ) → word_at at (codes " " ++ more) ≡ Some (Piece.Blank, more)
 space_read at more = refl
 
 -- ---- the tokens of a text that begins with a word
-
-first_of : (at : ℕ) (text more : List ℕ) (p : Piece) → word_at at text ≡ Some (p, more) → (word : List ℕ) × IsFirstWord at text word more p
-first_of at text more p is = subst (λ o. IsFirst at text o) is (first_is at text)
 
 same_length : (w word more : List ℕ) → w ++ more ≡ word ++ more → length w ≡ length word
 same_length w word more h = omega (arith, ap length h, length-append w more, length-append word more)
@@ -286,118 +320,3 @@ lexed_blank {at} w {more} {tokens} {stop} is d =
 
 pub lexed_space : {at : ℕ} {more : List ℕ} {tokens : List Lexeme} {stop : Option ℕ} → Lexes (at + 1) more tokens stop → Lexes at (codes " " ++ more) tokens stop
 lexed_space {at} {more} {tokens} {stop} d = lexed_blank (codes " ") (space_read at more) d
-
--- ---- what a text spells has a form
-
-abbrev HasFormIf : Option Token → Type 0
-HasFormIf None = ⊤
-HasFormIf (Some t) = HasForm t
-
-abbrev HasPieceForm : Option Piece → Type 0
-HasPieceForm None = ⊤
-HasPieceForm (Some Piece.Blank) = ⊤
-HasPieceForm (Some (Piece.Token t)) = HasForm t
-
-given : {A : Type 0} (P : A → Type 0) (t : Bool) (x y : A) → (t ≡ true → P x) → P y → P (cond t x y)
-given P true x y p q = p refl
-given P false x y p q = q
-
-word_form : (at : ℕ) (w : List ℕ) (a b c d r : Bool) → is_word w ≡ true → is_keyword w ≡ (a || b || c || d) → is_reserved w ≡ r →
-    HasForm (cond a (Token.Literal (Literal.Bool true)) (cond b (Token.Literal (Literal.Bool false)) (cond c (Token.Literal Literal.Null) (cond d (Token.Sign Within) (name_or_reserved at w r)))))
-word_form at w true b c d r is k s = tt
-word_form at w false true c d r is k s = tt
-word_form at w false false true d r is k s = tt
-word_form at w false false false true r is k s = tt
-word_form at w false false false false true is k s = rw (is, k, s) refl
-word_form at w false false false false false is k s = rw (is, k, s) refl
-
-closed_end : (v rest : List ℕ) → HasFormIf (closed_at v rest)
-closed_end v [] = IsUtf8-utf8_lossy v
-closed_end v (b ∷ bs) = tt
-
-closed_has : (o : Option (List ℕ × List ℕ)) → HasFormIf (closed o)
-closed_has None = tt
-closed_has (Some r) = closed_end r.0 r.1
-
-raw_has : (w : List ℕ) → HasFormIf (raw_form w)
-raw_has [] = tt
-raw_has (q ∷ w) = let o = between (next_move TextKind.Raw q) Mode.Plain w in either HasFormIf (is_quote q) (closed o) None (closed_has o) tt
-
-letter_has : (at b : ℕ) (w : List ℕ) → is_letter b ≡ true → HasFormIf (letter_form at b w)
-letter_has at b w letter =
-    given HasFormIf (all_bytes is_name_byte w) (Some (word_token at (b ∷ w))) (cond (nat_eq b 114) (raw_form w) None)
-    (λ all. word_form at (b ∷ w) (bytes_eq (b ∷ w) (codes "true")) (bytes_eq (b ∷ w) (codes "false")) (bytes_eq (b ∷ w) (codes "null")) (bytes_eq (b ∷ w) (codes "in")) (is_reserved (b ∷ w)) (rw (letter, all) refl) refl refl)
-    (either HasFormIf (nat_eq b 114) (raw_form w) None (raw_has w) tt)
-
-small : (n : ℕ) → saturated n < 2 ^ 64
-small n = omega arith
-
-hex_has : (w : List ℕ) → HasFormIf (hex_form w)
-hex_has [] = tt
-hex_has (x ∷ []) = tt
-hex_has (x ∷ h ∷ w) =
-    let found = cond (all_bytes is_hex (h ∷ w)) (Some (hex_token (h ∷ w))) None in
-    either HasFormIf (nat_eq x 120) found None (either HasFormIf (all_bytes is_hex (h ∷ w)) (Some (hex_token (h ∷ w))) None (small (hex_number 0 (h ∷ w))) tt) tt
-
-digit_has : (b : ℕ) (w : List ℕ) → HasFormIf (digit_form b w)
-digit_has b w =
-    either HasFormIf (all_bytes is_digit w) (Some (decimal_token (b ∷ w))) (cond (nat_eq b 48) (hex_form w) None) (small (decimal_number 0 (b ∷ w)))
-    (either HasFormIf (nat_eq b 48) (hex_form w) None (hex_has w) tt)
-
-or_sign : (t : Bool) (s : Token) (o : Option Token) → HasForm s → HasFormIf o → HasFormIf (cond t (Some s) o)
-or_sign t s o = either HasFormIf t (Some s) o
-
-bracket_has : (b : ℕ) → HasFormIf (bracket_sign b)
-bracket_has b =
-    or_sign (nat_eq b 40) (Token.Open Round) _ tt (or_sign (nat_eq b 41) (Token.Close Round) _ tt (or_sign (nat_eq b 91) (Token.Open Square) _ tt
-    (or_sign (nat_eq b 93) (Token.Close Square) _ tt (or_sign (nat_eq b 123) (Token.Open Curly) _ tt (or_sign (nat_eq b 125) (Token.Close Curly) None tt tt)))))
-
-mark_has : (b : ℕ) → HasFormIf (mark_sign b)
-mark_has b =
-    or_sign (nat_eq b 63) Token.Question _ tt (or_sign (nat_eq b 58) Token.Colon _ tt (or_sign (nat_eq b 33) Token.Bang _ tt
-    (or_sign (nat_eq b 46) Token.Dot _ tt (or_sign (nat_eq b 44) Token.Comma (bracket_sign b) tt (bracket_has b)))))
-
-one_has : (b : ℕ) → HasFormIf (one_sign b)
-one_has b =
-    or_sign (nat_eq b 60) (Token.Sign Lt) _ tt (or_sign (nat_eq b 62) (Token.Sign Gt) _ tt (or_sign (nat_eq b 43) (Token.Sign Add) _ tt
-    (or_sign (nat_eq b 45) Token.Minus _ tt (or_sign (nat_eq b 42) (Token.Sign Mul) _ tt (or_sign (nat_eq b 37) (Token.Sign Rem) (mark_sign b) tt (mark_has b))))))
-
-two_has : (b c : ℕ) → HasFormIf (two_sign b c)
-two_has b c =
-    or_sign (nat_eq b 124 && nat_eq c 124) (Token.Sign Or) _ tt (or_sign (nat_eq b 38 && nat_eq c 38) (Token.Sign And) _ tt (or_sign (nat_eq b 61 && nat_eq c 61) (Token.Sign Eq) _ tt
-    (or_sign (nat_eq b 33 && nat_eq c 61) (Token.Sign Ne) _ tt (or_sign (nat_eq b 60 && nat_eq c 61) (Token.Sign Le) _ tt (or_sign (nat_eq b 62 && nat_eq c 61) (Token.Sign Ge) None tt tt)))))
-
-sign_has : (b : ℕ) (w : List ℕ) → HasFormIf (sign_form b w)
-sign_has b [] = one_has b
-sign_has b (c ∷ []) = two_has b c
-sign_has b (c ∷ d ∷ w) = tt
-
-piece_has : (o : Option Token) → HasFormIf o → HasPieceForm (as_piece o)
-piece_has None h = tt
-piece_has (Some t) h = h
-
-slash_has : (w : List ℕ) → HasPieceForm (slash_form w)
-slash_has [] = tt
-slash_has (c ∷ w) = either HasPieceForm (nat_eq c 47 && all_bytes is_in_line w) (Some Piece.Blank) None tt tt
-
-blank_has : (w : List ℕ) → HasPieceForm (blank_form w)
-blank_has [] = tt
-blank_has (c ∷ w) = tt
-
-form_has : (at : ℕ) (w : List ℕ) → HasPieceForm (form at w)
-form_has at [] = tt
-form_has at (b ∷ w) =
-    given HasPieceForm (is_letter b) (as_piece (letter_form at b w)) _ (λ letter. piece_has (letter_form at b w) (letter_has at b w letter))
-    (either HasPieceForm (is_digit b) (as_piece (digit_form b w)) _ (piece_has (digit_form b w) (digit_has b w))
-    (either HasPieceForm (is_quote b) (as_piece (quote_form b w)) _ (piece_has (quote_form b w) (closed_has (between (next_move TextKind.Escaped b) Mode.Plain w)))
-    (either HasPieceForm (is_blank b) (blank_form w) _ (blank_has w)
-    (either HasPieceForm (nat_eq b 47) (slash_form w) (as_piece (sign_form b w)) (slash_has w) (piece_has (sign_form b w) (sign_has b w))))))
-
-word_has : {at : ℕ} {text word rest : List ℕ} {t : Token} → IsFirstWord at text word rest (Piece.Token t) → HasForm t
-word_has {at} {text} {word} {rest} {t} w = subst HasPieceForm w.is (form_has at word)
-
-pub lexed_forms : {at : ℕ} {text : List ℕ} {tokens : List Lexeme} {stop : Option ℕ} → Lexes at text tokens stop → AllByRecursion (λ l. HasForm l.token) tokens
-lexed_forms ended = tt
-lexed_forms (stopped less none) = tt
-lexed_forms (blank w d) = lexed_forms d
-lexed_forms (token w d) = (word_has w, lexed_forms d)
