@@ -34,6 +34,7 @@ and_parts true true h = (refl, refl)
 and_parts true false h = cc
 and_parts false y h = cc
 
+-- a choice by a test that is known, and by one that is not
 pub chosen : {A : Type 0} (t : Bool) (x y : A) → t ≡ true → cond t x y ≡ x
 chosen true x y h = refl
 chosen false x y h = cc
