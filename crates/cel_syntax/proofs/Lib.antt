@@ -8,3 +8,9 @@ pub mod Pushed
 pub mod Kept
 pub mod Placed
 pub mod Parsed
+pub mod Layers
+pub mod Alike
+pub mod Shown
+pub mod Texts
+pub mod Written
+pub mod Reprinted

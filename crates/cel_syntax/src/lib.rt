@@ -4,6 +4,7 @@
 mod draft;
 mod error;
 mod frames;
+mod laws;
 mod macro_faults;
 mod macros;
 mod parser;
@@ -12,6 +13,7 @@ mod whole;
 
 pub use draft::{Draft, DraftPair};
 pub use error::{ParseError, SyntaxRule};
+pub use laws::print_spells;
 pub use macro_faults::{MacroFault, first_fault};
 pub use macros::expand;
 pub use parser::{one_draft, parse_draft, viable_prefix};
