@@ -4,11 +4,11 @@ use Rattle.cel_values.specs.declared.expr.BinaryOp.{BinaryOp}
 use Rattle.cel_values.specs.declared.expr.Expr.{Expr}
 use Rattle.cel_values.specs.declared.expr.Expr.TheViews as expr
 use Rattle.cel_tokens.specs.declared.token.Name.{Name}
-use Rattle.cel_syntax.specs.declared.draft.Draft.{Draft}
-use Rattle.cel_syntax.specs.declared.draft.Draft.TheViews as draft
-use Rattle.cel_syntax.specs.declared.draft.Draft.TheOpen.{Draft-F}
-use Rattle.cel_syntax.specs.declared.draft.DraftPair.{DraftPair}
-use Rattle.cel_syntax.specs.declared.error.SyntaxRule.{SyntaxRule}
+use Rattle.cel_grammar.specs.declared.draft.Draft.{Draft}
+use Rattle.cel_grammar.specs.declared.draft.Draft.TheViews as draft
+use Rattle.cel_grammar.specs.declared.draft.Draft.TheOpen.{Draft-F}
+use Rattle.cel_grammar.specs.declared.draft.DraftPair.{DraftPair}
+use Rattle.cel_grammar.specs.declared.error.SyntaxRule.{SyntaxRule}
 use Rattle.cel_syntax.specs.declared.macro_faults.MacroFault.{MacroFault}
 use Rattle.cel_syntax.specs.declared.macro_faults.Nesting.{Nesting}
 use Rattle.cel_syntax.specs.Macros.{call_tree, method_tree, expanded, pair_expanded}

@@ -12,12 +12,12 @@ use Rattle.cel_values.specs.declared.expr.Expr.TheVariants as tree
 use Rattle.cel_tokens.specs.declared.token.Literal.{Literal}
 use Rattle.cel_tokens.specs.declared.token.Name.{Name}
 use Rattle.cel_tokens.specs.Spelling.{quoted}
-use Rattle.cel_syntax.specs.declared.draft.Draft.{Draft}
-use Rattle.cel_syntax.specs.declared.draft.Draft.TheViews as draft
-use Rattle.cel_syntax.specs.declared.draft.Draft.TheOpen.{Draft-F}
-use Rattle.cel_syntax.specs.declared.draft.Draft.TheFolds.{fold-roll-Draft, fold-roll-DraftPair, fold-DraftPair}
-use Rattle.cel_syntax.specs.declared.draft.Draft.TheVariants.{rolls-Literal, rolls-Int, rolls-Name, rolls-List, rolls-Map, rolls-Select, rolls-Index, rolls-Call, rolls-Method, rolls-Not, rolls-Neg, rolls-Binary, rolls-Cond}
-use Rattle.cel_syntax.specs.declared.draft.DraftPair.{DraftPair}
+use Rattle.cel_grammar.specs.declared.draft.Draft.{Draft}
+use Rattle.cel_grammar.specs.declared.draft.Draft.TheViews as draft
+use Rattle.cel_grammar.specs.declared.draft.Draft.TheOpen.{Draft-F}
+use Rattle.cel_grammar.specs.declared.draft.Draft.TheFolds.{fold-roll-Draft, fold-roll-DraftPair, fold-DraftPair}
+use Rattle.cel_grammar.specs.declared.draft.Draft.TheVariants.{rolls-Literal, rolls-Int, rolls-Name, rolls-List, rolls-Map, rolls-Select, rolls-Index, rolls-Call, rolls-Method, rolls-Not, rolls-Neg, rolls-Binary, rolls-Cond}
+use Rattle.cel_grammar.specs.declared.draft.DraftPair.{DraftPair}
 use Rattle.cel_syntax.specs.declared.macro_faults.MacroFault.{MacroFault}
 use Rattle.cel_syntax.specs.declared.macro_faults.Nesting.{Nesting}
 use Rattle.cel_syntax.specs.Macros.{literal_tree, call_tree, method_tree, expand_step, expanded, pair_expanded}

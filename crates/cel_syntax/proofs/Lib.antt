@@ -1,12 +1,3 @@
-pub mod Stack
-pub mod Taken
-pub mod Read
-pub mod Completed
-pub mod Signs
-pub mod Walked
-pub mod Pushed
-pub mod Kept
-pub mod Placed
 pub mod Parsed
 pub mod Layers
 pub mod Alike

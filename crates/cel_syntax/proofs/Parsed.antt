@@ -1,15 +1,15 @@
 -- What a text leads to, from its tree of ordinary calls.
 use Rattle.std.proofs.Common.{◌≡◌, ℕ, List, [], ◌∷◌, None, Result, Ok, Err, IfOk, IfErr, inl, inr, refl, sym, ap, ◌∙◌}
 use Rattle.cel_values.specs.declared.expr.Expr.{Expr}
-use Rattle.cel_syntax.specs.declared.draft.Draft.{Draft}
+use Rattle.cel_grammar.specs.declared.draft.Draft.{Draft}
 use Rattle.cel_syntax.specs.declared.macro_faults.MacroFault.{MacroFault}
-use Rattle.cel_syntax.specs.declared.error.ParseError.{ParseError}
-use Rattle.cel_syntax.specs.declared.error.ParseError.TheVariants.{Fault, Memory}
-use Rattle.cel_syntax.specs.Faults.{SpellsDraft, HasNoFault, IsErrorOf}
+use Rattle.cel_grammar.specs.declared.error.ParseError.{ParseError}
+use Rattle.cel_grammar.specs.declared.error.ParseError.TheVariants.{Fault, Memory}
+use Rattle.cel_grammar.specs.Faults.{SpellsDraft, HasNoFault, IsErrorOf}
 use Rattle.cel_syntax.specs.Macros.{expanded}
 use Rattle.cel_syntax.specs.MacroFaults.{faults_of, first_macro_fault}
 use Rattle.cel_syntax.specs.Parse.{Spells, IsSyntaxError, IsExprOf, Finishes}
-use Rattle.cel_syntax.proofs.Placed.{one_draft}
+use Rattle.cel_grammar.proofs.Placed.{one_draft}
 
 pub none_first : (fs : List MacroFault) → first_macro_fault fs ≡ None → fs ≡ []
 none_first [] h = refl

@@ -10,13 +10,13 @@ use Rattle.cel_tokens.specs.declared.token.Token.{Token}
 use Rattle.cel_tokens.specs.Lexing.{Lexes, ended}
 use Rattle.cel_tokens.specs.Spelling.{stops, HasForm}
 use Rattle.cel_tokens.proofs.Formed.{lexed_forms}
-use Rattle.cel_syntax.specs.declared.draft.Draft.{Draft}
-use Rattle.cel_syntax.specs.declared.draft.Draft.TheViews as draft
-use Rattle.cel_syntax.specs.declared.draft.Draft.TheOpen.{Draft-F}
-use Rattle.cel_syntax.specs.declared.draft.DraftPair.{DraftPair}
+use Rattle.cel_grammar.specs.declared.draft.Draft.{Draft}
+use Rattle.cel_grammar.specs.declared.draft.Draft.TheViews as draft
+use Rattle.cel_grammar.specs.declared.draft.Draft.TheOpen.{Draft-F}
+use Rattle.cel_grammar.specs.declared.draft.DraftPair.{DraftPair}
 use Rattle.cel_syntax.specs.declared.macro_faults.Nesting.{Nesting}
-use Rattle.cel_syntax.specs.Faults.{kinds, SpellsDraft}
-use Rattle.cel_syntax.specs.Grammar.{field_of, pair_of, Spelled, up, choice, binary, nots, negs, Nots, unmarked, not_of, Negs, unsigned, signed, neg_of, Member, integer_alone, proper, Proper, Some_of, last_one, one_more, Arguments, no_arguments, arguments, Items, plain, comma_behind, Pairs_of, last_pair, pair_more, Entries, no_entries, entries, entries_comma}
+use Rattle.cel_grammar.specs.Faults.{kinds, SpellsDraft}
+use Rattle.cel_grammar.specs.Grammar.{field_of, pair_of, Spelled, up, choice, binary, nots, negs, Nots, unmarked, not_of, Negs, unsigned, signed, neg_of, Member, integer_alone, proper, Proper, Some_of, last_one, one_more, Arguments, no_arguments, arguments, Items, plain, comma_behind, Pairs_of, last_pair, pair_more, Entries, no_entries, entries, entries_comma}
 use Rattle.cel_syntax.specs.Macros.{expanded}
 use Rattle.cel_syntax.specs.MacroFaults.{Seen, seen_step, seen, pair_seen, all_faults, pair_faults, first_selects, first_names, call_faults, method_faults, inside, faults_of}
 use Rattle.cel_syntax.specs.Parse.{Spells}

@@ -14,13 +14,13 @@ use Rattle.cel_values.specs.declared.expr.Expr.TheVariants as tree
 use Rattle.cel_tokens.specs.declared.token.Literal.{Literal}
 use Rattle.cel_tokens.specs.declared.token.Name.{Name}
 use Rattle.cel_tokens.specs.Spelling.{quoted}
-use Rattle.cel_syntax.specs.declared.draft.Draft.{Draft, roll-Draft}
-use Rattle.cel_syntax.specs.declared.draft.Draft.TheViews as draft
-use Rattle.cel_syntax.specs.declared.draft.Draft.TheOpen.{Draft-F}
-use Rattle.cel_syntax.specs.declared.draft.Draft.TheFolds.{fold-roll-Draft, fold-DraftPair, map-Draft, ind-Draft}
-use Rattle.cel_syntax.specs.declared.draft.Draft.TheVariants.{rolls-Name, rolls-Select}
-use Rattle.cel_syntax.specs.declared.draft.DraftPair.{DraftPair}
-use Rattle.cel_syntax.specs.declared.error.SyntaxRule.{SyntaxRule}
+use Rattle.cel_grammar.specs.declared.draft.Draft.{Draft, roll-Draft}
+use Rattle.cel_grammar.specs.declared.draft.Draft.TheViews as draft
+use Rattle.cel_grammar.specs.declared.draft.Draft.TheOpen.{Draft-F}
+use Rattle.cel_grammar.specs.declared.draft.Draft.TheFolds.{fold-roll-Draft, fold-DraftPair, map-Draft, ind-Draft}
+use Rattle.cel_grammar.specs.declared.draft.Draft.TheVariants.{rolls-Name, rolls-Select}
+use Rattle.cel_grammar.specs.declared.draft.DraftPair.{DraftPair}
+use Rattle.cel_grammar.specs.declared.error.SyntaxRule.{SyntaxRule}
 use Rattle.cel_syntax.specs.declared.macro_faults.MacroFault.{MacroFault}
 use Rattle.cel_syntax.specs.declared.macro_faults.Nesting.{Nesting}
 use Rattle.cel_syntax.specs.Macros.{kind_of, literal_tree, selection, variable, has_tree, three_tree, two_or_call, call_tree, method_tree, expanded, pair_expanded}

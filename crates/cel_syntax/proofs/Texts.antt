@@ -10,8 +10,8 @@ use Rattle.cel_tokens.specs.FirstWord.{word_at}
 use Rattle.cel_tokens.specs.Lexing.{Lexes}
 use Rattle.cel_tokens.specs.Spelling.{is_name, is_reserved_name, operator, operator_token, stops, begins}
 use Rattle.cel_tokens.proofs.Spelled.{token_before, name_read, reserved_read, operator_read, lexed_token, lexed_space}
-use Rattle.cel_syntax.specs.Faults.{kinds}
-use Rattle.cel_syntax.specs.Grammar.{op_of, field_of}
+use Rattle.cel_grammar.specs.Faults.{kinds}
+use Rattle.cel_grammar.specs.Grammar.{op_of, field_of}
 
 -- with what follows it, the text is read as tokens of this relation to those that follow
 pub record Reads (follow : List ℕ → Bool) (text : List ℕ) (R : List Token → List Token → Type 0) : Type 0 where

@@ -10,15 +10,15 @@ use Rattle.cel_tokens.specs.declared.token.Token.{Token}
 use Rattle.cel_tokens.specs.Spelling.{operator, is_name, stops, begins}
 use Rattle.cel_tokens.specs.Lexing.{Lexes}
 use Rattle.cel_tokens.proofs.Spelled.{name_is_word, true_read, false_read, null_read, integer_read, text_read, open_round_read, close_round_read, open_square_read, close_square_read, open_curly_read, close_curly_read, comma_read, dot_read, colon_read, question_read, minus_read, bang_read, word_begins, integer_begins}
-use Rattle.cel_syntax.specs.declared.draft.Draft.{Draft}
-use Rattle.cel_syntax.specs.declared.draft.Draft.TheViews as draft
-use Rattle.cel_syntax.specs.declared.draft.DraftPair.{DraftPair}
+use Rattle.cel_grammar.specs.declared.draft.Draft.{Draft}
+use Rattle.cel_grammar.specs.declared.draft.Draft.TheViews as draft
+use Rattle.cel_grammar.specs.declared.draft.DraftPair.{DraftPair}
 use Rattle.cel_syntax.specs.declared.macro_faults.Nesting.{Nesting}
-use Rattle.cel_syntax.specs.Grammar.{strength, pair_of, Spelled, up, choice, binary, nots, negs, Nots, unmarked, not_of, Negs, unsigned, signed, neg_of, Member, integer_alone, proper, Proper, Some_of, last_one, one_more, Arguments, no_arguments, arguments, plain, Pairs_of, last_pair, pair_more, Entries, no_entries, entries}
+use Rattle.cel_grammar.specs.Grammar.{strength, pair_of, Spelled, up, choice, binary, nots, negs, Nots, unmarked, not_of, Negs, unsigned, signed, neg_of, Member, integer_alone, proper, Proper, Some_of, last_one, one_more, Arguments, no_arguments, arguments, plain, Pairs_of, last_pair, pair_more, Entries, no_entries, entries}
 use Rattle.cel_syntax.specs.MacroFaults.{seen, first_selects, first_names, call_faults, method_faults}
 use Rattle.cel_syntax.specs.Print.{Form, Printed, level, may_be_inverted, may_be_negated, grouped, grouped_unless, at_level, listed, texts_listed, called, whole}
 use Rattle.cel_syntax.specs.Print as print
-use Rattle.cel_syntax.proofs.Stack.{binds, from_true}
+use Rattle.cel_grammar.proofs.Stack.{binds, from_true}
 use Rattle.cel_syntax.proofs.Alike.{Alike, AllAlike, AllPairsAlike, alike-itself, alike-Name, alike-List, alike-Map, alike-Select, alike-Index, alike-Not, alike-Neg, alike-Binary, alike-Cond, alike-Call, alike-Method}
 use Rattle.cel_syntax.proofs.Shown.{shown, shown_pair, shown_literal, shown-Literal, shown-Int, shown-Name, shown-List, shown-Map, shown-Select, shown-Index, shown-Not, shown-Neg, shown-Binary, shown-Cond, shown-Call, shown-Method}
 use Rattle.cel_syntax.proofs.Texts.{Reads, anything, no_equals, a_space, Joined, joined, Sign, sign, Named, named, Field, field, Operator, operator_sign, join, weaken, behind_space, sign_reads, name_reads, operator_reads}

@@ -1,11 +1,3 @@
-pub mod Grammar
-pub mod Machine
-pub mod Faults
-pub mod Walk
-pub mod Places
-pub mod Due
-pub mod Ready
-pub mod Answer
 pub mod Macros
 pub mod MacroFaults
 pub mod Parse

@@ -2,13 +2,13 @@
 use Rattle.std.specs.Prelude.{ℕ, List, [], ◌∷◌, ◌++◌, length, Bool, true, false, nat_eq, ◌&&◌, ◌||◌, if◌then◌else◌, is_some, codes, nat_lt, Option, Some, None}
 use Rattle.std.specs.Str.{bytes_eq}
 use Rattle.cel_tokens.specs.declared.token.Name.{Name}
-use Rattle.cel_syntax.specs.declared.error.SyntaxRule.{SyntaxRule}
-use Rattle.cel_syntax.specs.declared.draft.Draft.{Draft, fold-Draft}
-use Rattle.cel_syntax.specs.declared.draft.DraftPair.{DraftPair}
-use Rattle.cel_syntax.specs.declared.draft.Draft.TheOpen.{Draft-F, DraftPair-F}
+use Rattle.cel_grammar.specs.declared.error.SyntaxRule.{SyntaxRule}
+use Rattle.cel_grammar.specs.declared.draft.Draft.{Draft, fold-Draft}
+use Rattle.cel_grammar.specs.declared.draft.DraftPair.{DraftPair}
+use Rattle.cel_grammar.specs.declared.draft.Draft.TheOpen.{Draft-F, DraftPair-F}
 use Rattle.cel_syntax.specs.declared.macro_faults.Nesting.{Nesting}
 use Rattle.cel_syntax.specs.declared.macro_faults.MacroFault.{MacroFault}
-use Rattle.cel_syntax.specs.Faults.{rank}
+use Rattle.cel_grammar.specs.Faults.{rank}
 use Rattle.cel_syntax.specs.Macros.{kind_of}
 
 -- what a macro asks of a part, and the faults in it, by what it is inside of

@@ -7,9 +7,9 @@ use Rattle.cel_values.specs.declared.expr.Expr.TheViews as expr
 use Rattle.cel_values.specs.declared.expr.Expr.TheOpen.{Expr-F}
 use Rattle.cel_values.specs.declared.expr.MapPair.{MapPair}
 use Rattle.cel_tokens.specs.declared.token.Literal.{Literal}
-use Rattle.cel_syntax.specs.declared.draft.Draft.{Draft, fold-Draft}
-use Rattle.cel_syntax.specs.declared.draft.DraftPair.{DraftPair}
-use Rattle.cel_syntax.specs.declared.draft.Draft.TheOpen.{Draft-F, DraftPair-F}
+use Rattle.cel_grammar.specs.declared.draft.Draft.{Draft, fold-Draft}
+use Rattle.cel_grammar.specs.declared.draft.DraftPair.{DraftPair}
+use Rattle.cel_grammar.specs.declared.draft.Draft.TheOpen.{Draft-F, DraftPair-F}
 
 -- the macro of a name with a variable and one argument more
 abbrev pub kind_of : List ℕ → Option MacroKind

@@ -1,11 +1,11 @@
 -- What a text spells, and its first fault.
 use Rattle.std.specs.Prelude.{◌≡◌, ℕ, List, [], Some, Result, Ok, Err, ◌⊎◌}
 use Rattle.cel_values.specs.declared.expr.Expr.{Expr}
-use Rattle.cel_syntax.specs.declared.draft.Draft.{Draft}
-use Rattle.cel_syntax.specs.declared.error.SyntaxRule.{SyntaxRule}
-use Rattle.cel_syntax.specs.declared.error.ParseError.{ParseError}
-use Rattle.cel_syntax.specs.declared.error.ParseError.TheVariants.{Fault, Memory}
-use Rattle.cel_syntax.specs.Faults.{SpellsDraft, HasNoFault, IsFirstFault}
+use Rattle.cel_grammar.specs.declared.draft.Draft.{Draft}
+use Rattle.cel_grammar.specs.declared.error.SyntaxRule.{SyntaxRule}
+use Rattle.cel_grammar.specs.declared.error.ParseError.{ParseError}
+use Rattle.cel_grammar.specs.declared.error.ParseError.TheVariants.{Fault, Memory}
+use Rattle.cel_grammar.specs.Faults.{SpellsDraft, HasNoFault, IsFirstFault}
 use Rattle.cel_syntax.specs.Macros.{expanded}
 use Rattle.cel_syntax.specs.MacroFaults.{faults_of, first_macro_fault}
 

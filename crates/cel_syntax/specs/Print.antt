@@ -7,7 +7,7 @@ use Rattle.cel_values.specs.declared.expr.MacroKind.{MacroKind}
 use Rattle.cel_values.specs.declared.expr.Expr.{Expr, fold-Expr}
 use Rattle.cel_values.specs.declared.expr.Expr.TheOpen.{Expr-F, MapPair-F}
 use Rattle.cel_tokens.specs.Spelling.{quoted}
-use Rattle.cel_syntax.specs.Grammar.{strength}
+use Rattle.cel_grammar.specs.Grammar.{strength}
 
 -- ---- the words
 

@@ -1,22 +1,17 @@
-//! The grammar of the expression language, and a parser that answers by it.
+//! The whole expressions of the language: its parser, with the macros told apart, and the laws of its printed form.
 #![tactic(auto)]
 
-mod draft;
-mod error;
-mod frames;
 mod laws;
 mod macro_faults;
 mod macros;
-mod parser;
-mod reader;
 mod whole;
 
-pub use draft::{Draft, DraftPair};
-pub use error::{ParseError, SyntaxRule};
+pub use cel_grammar::{
+    Draft, DraftPair, ParseError, SyntaxRule, one_draft, parse_draft, viable_prefix,
+};
 pub use laws::print_spells;
 pub use macro_faults::{MacroFault, first_fault};
 pub use macros::expand;
-pub use parser::{one_draft, parse_draft, viable_prefix};
 pub use whole::{one_tree, parse};
 
 #[cfg(test)]

@@ -1,11 +1,10 @@
 ghost use Rattle.std.specs.Prelude.{◌≡◌, ◌++◌, map, length, OnOk, IfOk};
 ghost use Rattle.cel_syntax.specs.MacroFaults.{is_has as has_test, is_macro as macro_test, deeper as deeper_than, unless as fault_unless, is_shallow as shallow_test, call_faults as faults_of_call, method_faults as faults_of_method, inside as inside_of, first_selects as selects_first, first_names as names_first, all_faults, pair_faults, seen, pair_seen, faults_of, is_before as before_test, least as least_of, first_macro_fault};
-ghost use Rattle.cel_syntax.specs.Faults.{rank as rank_of};
+ghost use Rattle.cel_grammar.specs.Faults.{rank as rank_of};
 
-use crate::draft::{Draft, DraftPair};
-use crate::error::SyntaxRule;
 use crate::macros::kind_of;
 use base_types::Items;
+use cel_grammar::{Draft, DraftPair, SyntaxRule};
 use cel_tokens::Name;
 use std::alloc::{AllocError, Global};
 

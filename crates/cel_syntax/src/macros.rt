@@ -2,8 +2,8 @@ ghost use Rattle.std.specs.Prelude.{◌≡◌, [], ◌∷◌, Some, None, List, 
 ghost use Rattle.cel_values.specs.declared.expr.Expr.{out-Expr};
 ghost use Rattle.cel_syntax.specs.Macros.{kind_of as kind_named, variable, literal_tree, has_tree, two_tree, three_tree, call_tree, method_tree, expanded, pair_expanded};
 
-use crate::draft::{Draft, DraftPair};
 use base_types::{Boxed, Items, Text};
+use cel_grammar::{Draft, DraftPair};
 use cel_tokens::Literal;
 use cel_values::{Expr, MacroKind, MapPair};
 use std::alloc::{AllocError, Global};

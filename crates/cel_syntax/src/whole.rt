@@ -1,13 +1,11 @@
 ghost use Rattle.std.specs.Prelude.{◌≡◌, ℕ, List, IfOk, IfErr};
 ghost use Rattle.cel_values.specs.declared.expr.Expr.{Expr as Tree};
-ghost use Rattle.cel_syntax.specs.Faults.{HasNoFault};
+ghost use Rattle.cel_grammar.specs.Faults.{HasNoFault};
 ghost use Rattle.cel_syntax.specs.Parse.{Spells, IsSyntaxError, IsExprOf, Finishes};
 
-use crate::draft::Draft;
-use crate::error::ParseError;
 use crate::macro_faults::first_fault;
 use crate::macros::expand;
-use crate::parser::parse_draft;
+use cel_grammar::{Draft, ParseError, parse_draft};
 use cel_values::Expr;
 use std::alloc::Global;
 

@@ -1,5 +1,0 @@
-use Rattle.cel_syntax.proofs.Completed.{can_begin, cannot_begin}
-use Rattle.cel_syntax.proofs.parser.viable_prefix.Goals as goal
-
-pub returns : goal.returns
-returns c = record { taken = can_begin; refused = cannot_begin }

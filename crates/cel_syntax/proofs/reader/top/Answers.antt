@@ -1,5 +1,0 @@
-use Rattle.cel_syntax.proofs.Pushed.{top_of}
-use Rattle.cel_syntax.proofs.reader.top.Goals as goal
-
-pub returns : goal.returns
-returns c = top_of c.args.frames.now c.pop.new.self c.pop.result c.pop.ensures
