@@ -62,9 +62,6 @@ weaken {follow} {a} {R} {S} p h = record {
   reads = λ more f at after d. let r = p.reads more f at after d in (r.0, r.1, h (kinds r.0) (kinds after) r.2);
 }
 
-pub at_last : {follow : List ℕ → Bool} {a : List ℕ} {R : List Token → List Token → Type 0} → Reads anything a R → Reads follow a R
-at_last {follow} {a} {R} p = record { reads = λ more h at after d. p.reads more refl at after d }
-
 pub behind_space : {follow : List ℕ → Bool} {a : List ℕ} {R : List Token → List Token → Type 0} → Reads follow a R → Reads follow (codes " " ++ a) R
 behind_space {follow} {a} {R} p = record {
   reads = λ more h at after d.
