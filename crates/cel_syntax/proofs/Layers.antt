@@ -24,7 +24,7 @@ use Rattle.cel_syntax.specs.Macros.{literal_tree, call_tree, method_tree, expand
 use Rattle.cel_syntax.specs.Macros as macros
 use Rattle.cel_syntax.specs.MacroFaults.{Seen, seen_step, seen, pair_seen}
 use Rattle.cel_syntax.specs.MacroFaults as faults
-use Rattle.cel_syntax.specs.Print.{Printed, print_step, printed, boolean, whole, integer_form, listed, texts_listed, method, at_level, call, called, macro_name, macro_items, grouped_unless, may_be_inverted, may_be_negated, printed_binary, printed_choice, inverse, negative}
+use Rattle.cel_syntax.specs.Print.{pair_printed, Printed, print_step, printed, boolean, whole, integer_form, listed, texts_listed, method, at_level, call, called, macro_name, macro_items, grouped_unless, may_be_inverted, may_be_negated, printed_binary, printed_choice, inverse, negative}
 use Rattle.cel_syntax.specs.Print as print
 
 pub map_same : {A B : Type 0} (f g : A → B) → ((x : A) → f x ≡ g x) → (xs : List A) → map f xs ≡ map g xs
@@ -121,10 +121,7 @@ seen-Cond c a b = ap seen (sym (rolls-Cond c a b)) ∙ fold-roll-Draft Seen (Nes
 
 -- ---- what expressions are printed as
 
-abbrev pub printed_pair : MapPair → List ℕ
-printed_pair p = (printed p.key).text ++ (codes ": " ++ (printed p.value).text)
-
-pair_is_printed : (p : MapPair) → fold-MapPair Printed (List ℕ) print_step print.pair_step p ≡ printed_pair p
+pair_is_printed : (p : MapPair) → fold-MapPair Printed (List ℕ) print_step print.pair_step p ≡ pair_printed p
 pair_is_printed p = fold-roll-MapPair Printed (List ℕ) print_step print.pair_step (record { key = p.key; value = p.value })
 
 pub printed-Null : printed Expr.Null ≡ whole (codes "null")
@@ -145,8 +142,8 @@ printed-Name n = ap printed (sym (tree.rolls-Name n)) ∙ fold-roll-Expr Printed
 pub printed-List : (es : List Expr) → printed (expr.List es) ≡ whole (codes "[" ++ (listed (map printed es) ++ codes "]"))
 printed-List es = ap printed (sym (tree.rolls-List es)) ∙ fold-roll-Expr Printed (List ℕ) print_step print.pair_step (Expr-F.List es)
 
-pub printed-Map : (ps : List MapPair) → printed (expr.Map ps) ≡ whole (codes "{" ++ (texts_listed (map printed_pair ps) ++ codes "}"))
-printed-Map ps = ap printed (sym (tree.rolls-Map ps)) ∙ fold-roll-Expr Printed (List ℕ) print_step print.pair_step (Expr-F.Map ps) ∙ ap (λ ts. whole (codes "{" ++ (texts_listed ts ++ codes "}"))) (map_same _ printed_pair pair_is_printed ps)
+pub printed-Map : (ps : List MapPair) → printed (expr.Map ps) ≡ whole (codes "{" ++ (texts_listed (map pair_printed ps) ++ codes "}"))
+printed-Map ps = ap printed (sym (tree.rolls-Map ps)) ∙ fold-roll-Expr Printed (List ℕ) print_step print.pair_step (Expr-F.Map ps) ∙ ap (λ ts. whole (codes "{" ++ (texts_listed ts ++ codes "}"))) (map_same _ pair_printed pair_is_printed ps)
 
 pub printed-Select : (e : Expr) (f : List ℕ) → printed (expr.Select e f) ≡ whole (method (printed e) f)
 printed-Select e f = ap printed (sym (tree.rolls-Select e f)) ∙ fold-roll-Expr Printed (List ℕ) print_step print.pair_step (Expr-F.Select e f)

@@ -1,4 +1,5 @@
 pub mod Parsed
+pub mod Separated
 pub mod Layers
 pub mod Alike
 pub mod Shown

@@ -26,9 +26,9 @@ use Rattle.cel_syntax.specs.declared.macro_faults.Nesting.{Nesting}
 use Rattle.cel_syntax.specs.Macros.{kind_of, literal_tree, selection, variable, has_tree, three_tree, two_or_call, call_tree, method_tree, expanded, pair_expanded}
 use Rattle.cel_syntax.specs.MacroFaults.{Seen, seen_step, seen, unless, is_has, is_macro, is_shallow, first_selects, first_names, call_faults, method_faults}
 use Rattle.cel_syntax.specs.MacroFaults as faults
-use Rattle.cel_syntax.specs.Print.{Printed, printed, whole, boolean, integer_form, listed, texts_listed, method, at_level, called, macro_name, named, grouped_unless, may_be_inverted, may_be_negated, printed_binary, printed_choice, inverse, negative}
+use Rattle.cel_syntax.specs.Print.{pair_printed, Printed, printed, whole, boolean, integer_form, listed, texts_listed, method, at_level, called, macro_name, named, grouped_unless, may_be_inverted, may_be_negated, printed_binary, printed_choice, inverse, negative}
 use Rattle.cel_syntax.proofs.Alike.{left_empty}
-use Rattle.cel_syntax.proofs.Layers.{expanded-Literal, expanded-Int, expanded-Name, expanded-List, expanded-Map, expanded-Select, expanded-Index, expanded-Call, expanded-Method, expanded-Not, expanded-Neg, expanded-Binary, expanded-Cond, printed_pair, printed-Null, printed-Bool, printed-Int, printed-Text, printed-Name, printed-List, printed-Map, printed-Select, printed-Has, printed-Index, printed-function, printed-method, printed-Not, printed-Neg, printed-Binary, printed-Cond, printed-macro, printed-macro_of_three}
+use Rattle.cel_syntax.proofs.Layers.{expanded-Literal, expanded-Int, expanded-Name, expanded-List, expanded-Map, expanded-Select, expanded-Index, expanded-Call, expanded-Method, expanded-Not, expanded-Neg, expanded-Binary, expanded-Cond, printed-Null, printed-Bool, printed-Int, printed-Text, printed-Name, printed-List, printed-Map, printed-Select, printed-Has, printed-Index, printed-function, printed-method, printed-Not, printed-Neg, printed-Binary, printed-Cond, printed-macro, printed-macro_of_three}
 
 abbrev pub shown : Draft → Printed
 shown d = printed (expanded d)
@@ -45,7 +45,7 @@ map_shown : (es : List Draft) → map printed (map expanded es) ≡ map shown es
 map_shown [] = refl
 map_shown (e ∷ es) = ap (λ ps. shown e ∷ ps) (map_shown es)
 
-map_shown_pair : (ps : List DraftPair) → map printed_pair (map pair_expanded ps) ≡ map shown_pair ps
+map_shown_pair : (ps : List DraftPair) → map pair_printed (map pair_expanded ps) ≡ map shown_pair ps
 map_shown_pair [] = refl
 map_shown_pair (p ∷ ps) = ap (λ ts. shown_pair p ∷ ts) (map_shown_pair ps)
 

@@ -1,9 +1,10 @@
-//! The whole expressions of the language: its parser, with the macros told apart, and the laws of its printed form.
+//! The whole expressions of the language: their parser, with the macros told apart, and their printer.
 #![tactic(auto)]
 
 mod laws;
 mod macro_faults;
 mod macros;
+mod printer;
 mod whole;
 
 pub use cel_grammar::{
@@ -12,6 +13,7 @@ pub use cel_grammar::{
 pub use laws::print_spells;
 pub use macro_faults::{MacroFault, first_fault};
 pub use macros::expand;
+pub use printer::print;
 pub use whole::{one_tree, parse};
 
 #[cfg(test)]

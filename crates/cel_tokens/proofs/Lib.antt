@@ -6,3 +6,4 @@ pub mod Lexed
 mod Lossy
 pub mod Spelled
 pub mod Formed
+pub mod Escapes
