@@ -1,5 +1,5 @@
 -- The text that a tree is printed as: brackets stand where the grammar needs them, and around an integer behind a sign.
-use Rattle.std.specs.Prelude.{ℕ, ℤ, ◌+◌, pos, negsuc, List, [], ◌∷◌, ◌++◌, Bool, true, false, nat_eq, nat_le, ◌||◌, ◌&&◌, if◌then◌else◌, Option, Some, None, codes}
+use Rattle.std.specs.Prelude.{ℕ, ℤ, ◌+◌, pos, negsuc, List, [], ◌∷◌, ◌++◌, Bool, true, false, nat_le, Option, Some, None, codes}
 use Rattle.std.specs.Fmt.{signed_decimal}
 use Rattle.cel_values.specs.declared.expr.BinaryOp.{BinaryOp}
 use Rattle.cel_values.specs.declared.expr.BinaryOp.TheVariants.{Or, And, Lt, Le, Gt, Ge, Eq, Ne, Within, Add, Sub, Mul, Div, Rem}

@@ -1,6 +1,7 @@
 //! The whole expressions of the language: their parser, with the macros told apart, and their printer.
 #![tactic(auto)]
 
+mod laws;
 mod macro_faults;
 mod macros;
 mod printer;
@@ -9,6 +10,7 @@ mod whole;
 pub use cel_grammar::{
     Draft, DraftPair, ParseError, SyntaxRule, one_draft, parse_draft, viable_prefix,
 };
+pub use laws::print_spells;
 pub use macro_faults::{MacroFault, first_fault};
 pub use macros::expand;
 pub use printer::print;

@@ -34,6 +34,19 @@ and_parts true true h = (refl, refl)
 and_parts true false h = cc
 and_parts false y h = cc
 
+-- a choice by a test that is known, and by one that is not
+pub chosen : {A : Type 0} (t : Bool) (x y : A) → t ≡ true → cond t x y ≡ x
+chosen true x y h = refl
+chosen false x y h = cc
+
+pub passed : {A : Type 0} (t : Bool) (x y : A) → t ≡ false → cond t x y ≡ y
+passed true x y h = cc
+passed false x y h = refl
+
+pub either : {A : Type 0} (P : A → Type 0) (t : Bool) (x y : A) → P x → P y → P (cond t x y)
+either P true x y p q = p
+either P false x y p q = q
+
 longest_at : (n : ℕ) (b : ℕ) (bs : List ℕ) (r : List ℕ × List ℕ) (t : Bool) → t ≡ true → n ≤ length r.0 → suc n ≤ length (fronted t b bs r).0
 longest_at n b bs r true h more = omega arith
 longest_at n b bs r false h more = cc

@@ -69,7 +69,7 @@ shorter at (b ∷ w) p is = omega arith
 next_place : (text rest word more : List ℕ) → length rest ≤ length text → rest ≡ word ++ more → length text - length rest + length word ≡ length text - length more
 next_place text rest word more bound front = let long : length rest ≡ length word + length more = ap length front ∙ length-append word more in omega arith
 
-first_of : (at : ℕ) (text more : List ℕ) (p : Piece) → word_at at text ≡ Some (p, more) → (word : List ℕ) × IsFirstWord at text word more p
+pub first_of : (at : ℕ) (text more : List ℕ) (p : Piece) → word_at at text ≡ Some (p, more) → (word : List ℕ) × IsFirstWord at text word more p
 first_of at text more p is = subst (λ o. IsFirst at text o) is (first_is at text)
 
 pub less_left : (at : ℕ) (text more : List ℕ) (p : Piece) → word_at at text ≡ Some (p, more) → length more < length text

@@ -3,4 +3,7 @@ pub mod Fronts
 pub mod Ascii
 pub mod Longest
 pub mod Lexed
+mod Lossy
+pub mod Spelled
+pub mod Formed
 pub mod Escapes

@@ -136,7 +136,7 @@ other_best p make other q bs word rest t fails cut is most =
     long : (w r : List ℕ) (s : Token) → q ∷ bs ≡ w ++ r → run_or p make other w ≡ Some s → length w ≤ suc (length word)
     long w r s same f = by w r s same (run_case p make other w s (all_bytes p w) refl f)
 
-eq_from : (a b : ℕ) → nat_eq a b ≡ true → a ≡ b
+pub eq_from : (a b : ℕ) → nat_eq a b ≡ true → a ≡ b
 eq_from a b h = grind (arith, nat_tests)
 
 or_parts : (x y : Bool) → (x || y) ≡ true → (x ≡ true) ⊎ (y ≡ true)
