@@ -1,11 +1,12 @@
 -- The text that a tree is printed as: brackets stand where the grammar needs them, and around an integer behind a sign.
-use Rattle.std.specs.Prelude.{ℕ, ℤ, ◌+◌, pos, negsuc, List, [], ◌∷◌, ◌++◌, Bool, true, false, nat_eq, nat_le, ◌||◌, ◌&&◌, if◌then◌else◌, Option, Some, None, codes}
+use Rattle.std.specs.Prelude.{ℕ, ℤ, ◌+◌, pos, negsuc, List, [], ◌∷◌, ◌++◌, Bool, true, false, nat_le, Option, Some, None, codes}
 use Rattle.std.specs.Fmt.{signed_decimal}
 use Rattle.cel_values.specs.declared.expr.BinaryOp.{BinaryOp}
 use Rattle.cel_values.specs.declared.expr.BinaryOp.TheVariants.{Or, And, Lt, Le, Gt, Ge, Eq, Ne, Within, Add, Sub, Mul, Div, Rem}
 use Rattle.cel_values.specs.declared.expr.MacroKind.{MacroKind}
 use Rattle.cel_values.specs.declared.expr.Expr.{Expr, fold-Expr}
 use Rattle.cel_values.specs.declared.expr.Expr.TheOpen.{Expr-F, MapPair-F}
+use Rattle.cel_values.specs.declared.expr.MapPair.{MapPair}
 use Rattle.cel_tokens.specs.Spelling.{quoted}
 use Rattle.cel_grammar.specs.Grammar.{strength}
 
@@ -120,6 +121,11 @@ abbrev pub macro_items : List ℕ → Option Printed → Printed → List Printe
 macro_items variable None value = named variable ∷ value ∷ []
 macro_items variable (Some test) value = named variable ∷ test ∷ value ∷ []
 
+-- behind a macro's variable
+abbrev pub tested : Option Printed → List ℕ
+tested None = []
+tested (Some test) = codes ", " ++ test.text
+
 abbrev pub integer_form : ℤ → Form
 integer_form (pos n) = integer
 integer_form (negsuc n) = signed
@@ -156,6 +162,9 @@ pair_step pair = pair.key.text ++ (codes ": " ++ pair.value.text)
 
 abbrev pub printed : Expr → Printed
 printed = fold-Expr Printed (List ℕ) print_step pair_step
+
+abbrev pub pair_printed : MapPair → List ℕ
+pair_printed pair = (printed pair.key).text ++ (codes ": " ++ (printed pair.value).text)
 
 -- the text that a tree is printed as
 unfoldable pub printed_text : Expr → List ℕ

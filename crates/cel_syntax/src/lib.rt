@@ -1,8 +1,9 @@
-//! The whole expressions of the language: its parser, with the macros told apart.
+//! The whole expressions of the language: their parser, with the macros told apart, and their printer.
 #![tactic(auto)]
 
 mod macro_faults;
 mod macros;
+mod printer;
 mod whole;
 
 pub use cel_grammar::{
@@ -10,6 +11,7 @@ pub use cel_grammar::{
 };
 pub use macro_faults::{MacroFault, first_fault};
 pub use macros::expand;
+pub use printer::print;
 pub use whole::{one_tree, parse};
 
 #[cfg(test)]

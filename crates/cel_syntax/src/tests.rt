@@ -1,3 +1,4 @@
+use crate::printer::print;
 use crate::whole::parse;
 use cel_grammar::{ParseError, SyntaxRule};
 use cel_values::{Expr, MacroKind};
@@ -63,6 +64,208 @@ fn macros_have_their_forms(rt: HostRuntime) -> Result<(), Fail> {
     ] {
         let found = whole_answer(alloc, text)?;
         assert_eq!(rt; found.as_str(), want, "at {text}");
+    }
+    Ok(())
+}
+
+// An expression's text, read and printed, or the place and the rule of its fault.
+fn printed(alloc: Global, text: &str) -> Result<String, AllocError> {
+    match parse(alloc, text) {
+        Ok(e) => Ok(print(alloc, &e)?.into_string()),
+        Err(ParseError::Memory) => "memory".to_owned(alloc),
+        Err(ParseError::Fault { at, rule }) => {
+            let name = rule_name(rule);
+            format!(in alloc; "{at} {name}")
+        }
+    }
+}
+
+#[test]
+fn texts_are_printed(rt: HostRuntime) -> Result<(), Fail> {
+    let alloc = rt.alloc();
+    for (text, want) in [
+        ("a ? b : c ? d : e", "a ? b : c ? d : e"),
+        ("a ? b : (c ? d : e)", "a ? b : c ? d : e"),
+        ("(a ? b : c) ? d : e", "(a ? b : c) ? d : e"),
+        ("a ? (b ? c : d) : e", "a ? (b ? c : d) : e"),
+        (
+            "(a ? b : c) ? (d ? e : f) : g ? h : i",
+            "(a ? b : c) ? (d ? e : f) : g ? h : i",
+        ),
+        ("(a || b) ? (c && d) : (e || f)", "a || b ? c && d : e || f"),
+        ("(a ? b : c) || d", "(a ? b : c) || d"),
+        ("a || (b ? c : d)", "a || (b ? c : d)"),
+        ("(a ? b : c) * d", "(a ? b : c) * d"),
+        ("a * (b ? c : d)", "a * (b ? c : d)"),
+        ("(a ? b : c) in d", "(a ? b : c) in d"),
+        ("!(a ? b : c)", "!(a ? b : c)"),
+        ("-(a ? b : c)", "-(a ? b : c)"),
+        ("(a ? b : c).d", "(a ? b : c).d"),
+        ("(a ? b : c)[0]", "(a ? b : c)[0]"),
+        ("(a ? b : c).f()", "(a ? b : c).f()"),
+        ("(a ? b : c).all(x, x)", "(a ? b : c).all(x, x)"),
+        ("[(a ? b : c), (d)]", "[a ? b : c, d]"),
+        ("f((a ? b : c), (d))", "f(a ? b : c, d)"),
+        ("a.f((b ? c : d))", "a.f(b ? c : d)"),
+        ("a[(b ? c : d)]", "a[b ? c : d]"),
+        ("{(a ? b : c): (d ? e : f)}", "{a ? b : c: d ? e : f}"),
+        ("l.all(x, (x ? a : b))", "l.all(x, x ? a : b)"),
+        ("-(-1)", "-(-1)"),
+        ("-(1)", "-(1)"),
+        ("!(-1)", "!(-1)"),
+        ("(-1).a", "(-1).a"),
+        ("(-1)[0]", "(-1)[0]"),
+        ("(-1).f()", "(-1).f()"),
+        ("(-1).all(x, x)", "(-1).all(x, x)"),
+        ("1.a", "1.a"),
+        ("1[0]", "1[0]"),
+        ("-1.a", "-1.a"),
+        ("-1[0]", "-1[0]"),
+        ("--1", "-(-1)"),
+        ("- -5", "-(-5)"),
+        ("-(-(1))", "--(1)"),
+        ("!(1)", "!1"),
+        ("-0", "0"),
+        ("-9223372036854775808", "-9223372036854775808"),
+        ("9223372036854775807", "9223372036854775807"),
+        ("-(-9223372036854775808)", "-(-9223372036854775808)"),
+        ("a - -1", "a - -1"),
+        ("a - -b", "a - -b"),
+        ("-a - b", "-a - b"),
+        ("-(a - b)", "-(a - b)"),
+        ("a - (-1)", "a - -1"),
+        ("(-1) - a", "-1 - a"),
+        ("(-1) * 2", "-1 * 2"),
+        ("-1 + 2", "-1 + 2"),
+        ("--x", "--x"),
+        ("!!x", "!!x"),
+        ("!(-x)", "!(-x)"),
+        ("-(!x)", "-(!x)"),
+        ("-(-x)", "--x"),
+        ("!(!x)", "!!x"),
+        ("!(a && b)", "!(a && b)"),
+        ("-(a * b)", "-(a * b)"),
+        ("(!a) && b", "!a && b"),
+        ("(-a) * b", "-a * b"),
+        ("(!a).b", "(!a).b"),
+        ("(-a).b", "(-a).b"),
+        ("(-a)[0]", "(-a)[0]"),
+        ("(!a).f()", "(!a).f()"),
+        ("!(a.b)", "!a.b"),
+        ("-(a[0])", "-a[0]"),
+        ("-(f(1))", "-f(1)"),
+        ("-'x'", "-\"x\""),
+        ("(a + b).c", "(a + b).c"),
+        ("(a + b)[0]", "(a + b)[0]"),
+        ("(a + b).f()", "(a + b).f()"),
+        ("((a).b).c", "a.b.c"),
+        ("a . b [ 0 ] . c ( d , e )", "a.b[0].c(d, e)"),
+        ("a.if(1).as", "a.if(1).as"),
+        ("a.true_", "a.true_"),
+        ("f()", "f()"),
+        ("a.f()", "a.f()"),
+        ("[1].a", "[1].a"),
+        ("{}.a", "{}.a"),
+        ("f(1).a", "f(1).a"),
+        ("'x'.a", "\"x\".a"),
+        ("true.a", "true.a"),
+        ("has(a.b)", "has(a.b)"),
+        ("has((a + b).c)", "has((a + b).c)"),
+        ("has((-1).a)", "has((-1).a)"),
+        ("has(a[0].b)", "has(a[0].b)"),
+        ("has((a).b)", "has(a.b)"),
+        ("has((a.b))", "has(a.b)"),
+        ("(a + b).all(x, p)", "(a + b).all(x, p)"),
+        ("l.exists(x, x)", "l.exists(x, x)"),
+        ("l.exists_one(x, x > 1)", "l.exists_one(x, x > 1)"),
+        ("l.filter(x, y)", "l.filter(x, y)"),
+        ("l.map(x, x + 1)", "l.map(x, x + 1)"),
+        ("l.map(x, x > 1, x)", "l.map(x, x > 1, x)"),
+        ("l.filter(x, x, x)", "l.filter(x, x, x)"),
+        ("all(x, y)", "all(x, y)"),
+        ("l.map((x), (x > 1), (x))", "l.map(x, x > 1, x)"),
+        (
+            "l.all(x, m.all(y, has(y.z)))",
+            "l.all(x, m.all(y, has(y.z)))",
+        ),
+        ("'a\\\\b'", "\"a\\\\b\""),
+        ("'\"'", "\"\\\"\""),
+        ("'\\n\\r\\t'", "\"\\n\\r\\t\""),
+        ("'it\\'s'", "\"it's\""),
+        ("\"it's\"", "\"it's\""),
+        ("\"\"", "\"\""),
+        (
+            "'\\u0000\\u0001\\u001f\\u007f'",
+            "\"\u{0}\u{1}\u{1f}\u{7f}\"",
+        ),
+        ("'\u{0}\t\u{b}'", "\"\u{0}\\t\u{b}\""),
+        ("'\u{e9}\u{20ac}\u{1f600}'", "\"\u{e9}\u{20ac}\u{1f600}\""),
+        ("'\\u00e9'", "\"\u{e9}\""),
+        ("r'\\d'", "\"\\\\d\""),
+        ("r\"\\\"", "\"\\\\\""),
+        ("'\\\\n'", "\"\\\\n\""),
+        ("0x10", "16"),
+        ("-0xfF", "-255"),
+        ("007", "7"),
+        ("null", "null"),
+        ("true ? null : false", "true ? null : false"),
+        ("[1, 2,]", "[1, 2]"),
+        ("{1: 2,}", "{1: 2}"),
+        ("[]", "[]"),
+        ("{}", "{}"),
+        ("[[], {}]", "[[], {}]"),
+        ("{'a':[1],b:{}}", "{\"a\": [1], b: {}}"),
+        ("((a))", "a"),
+        ("a// note", "a"),
+        ("a\n&&\tb", "a && b"),
+        ("a in [1, 2]", "a in [1, 2]"),
+    ] {
+        let found = printed(alloc, text)?;
+        assert_eq!(rt; found.as_str(), want, "at {text}");
+    }
+    Ok(())
+}
+
+// The operators of two operands, with their levels.
+const SIGNS: [(&str, u8); 14] = [
+    ("||", 1),
+    ("&&", 2),
+    ("<", 3),
+    ("<=", 3),
+    (">", 3),
+    (">=", 3),
+    ("==", 3),
+    ("!=", 3),
+    ("in", 3),
+    ("+", 4),
+    ("-", 4),
+    ("*", 5),
+    ("/", 5),
+    ("%", 5),
+];
+
+#[test]
+fn operators_are_bracketed_where_they_need_it(rt: HostRuntime) -> Result<(), Fail> {
+    let alloc = rt.alloc();
+    for (outer, level) in SIGNS {
+        for (inner, inner_level) in SIGNS {
+            let left = format!(in alloc; "(a {inner} b) {outer} c")?;
+            let plain = format!(in alloc; "a {inner} b {outer} c")?;
+            let want = if inner_level < level {
+                left.as_str()
+            } else {
+                plain.as_str()
+            };
+            assert_eq!(rt; printed(alloc, left.as_str())?.as_str(), want);
+            let right = format!(in alloc; "a {outer} (b {inner} c)")?;
+            let plain = format!(in alloc; "a {outer} b {inner} c")?;
+            let want = if inner_level > level {
+                plain.as_str()
+            } else {
+                right.as_str()
+            };
+            assert_eq!(rt; printed(alloc, right.as_str())?.as_str(), want);
+        }
     }
     Ok(())
 }

@@ -3,3 +3,4 @@ pub mod Fronts
 pub mod Ascii
 pub mod Longest
 pub mod Lexed
+pub mod Escapes

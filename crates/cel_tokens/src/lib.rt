@@ -5,10 +5,12 @@ mod lexer;
 mod quoted;
 mod runs;
 mod signs;
+mod spelling;
 mod token;
 mod words;
 
 pub use lexer::{Lexing, lex, longest_word, one_lexing};
+pub use spelling::put_quoted;
 pub use token::{Bracket, Lexeme, Literal, Name, Token};
 
 #[cfg(test)]
