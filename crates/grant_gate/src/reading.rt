@@ -21,8 +21,9 @@ use links::write_told;
 use serde_json::Value;
 use std::alloc::{AllocError, Global};
 
-/// The facts that a token's text carries: one that was written under the key of at least 32 bytes, by
-/// that issuer. What it carries was never recorded where the text is another's.
+/// The facts that a token's text carries under a key of at least 32 bytes: its MAC is right, and its
+/// payload is the one that is written for these facts and that issuer. It knows no state and no clock,
+/// so it doesn't say that the token was issued, nor that it's live.
 #[tactic(auto, unfolding(crate::specs::Carried::carried_of))]
 pub fn carried(alloc: Global, key: &[u8], issuer: &str, text: &str) -> Result<TokenFacts, GateFault>
     requires { 32 ≤ length key.now }
@@ -77,6 +78,7 @@ fn claims_in(alloc: Global, issuer: &str, payload: &[u8]) -> Result<Claims, Gate
     written_claims(alloc, issuer, payload)
 }
 
+/// The claims in the payload, where the payload is written for them.
 fn written_claims(alloc: Global, issuer: &str, payload: &[u8]) -> Result<Claims, GateFault>
     ensures { ReadsClaims claims_facts result (formed (λ facts. bytes_eq (payload_text issuer.now facts) payload.now)
         (option_and_then formed_in (document payload.now))) }
@@ -89,6 +91,7 @@ fn written_claims(alloc: Global, issuer: &str, payload: &[u8]) -> Result<Claims,
     }
 }
 
+/// Whether the payload is the one that is written for these claims and the issuer.
 fn is_written_as(
     alloc: Global,
     issuer: &str,
