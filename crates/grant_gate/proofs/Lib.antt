@@ -7,3 +7,4 @@ pub mod Steps
 pub mod Words
 pub mod Agrees
 pub mod Checks
+pub mod Later

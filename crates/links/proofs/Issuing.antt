@@ -45,7 +45,7 @@ chain-missing c n missing =
     ap (λ (l : List (Option Chain)). slice_get l n) (chains_of-from c.links) ∙ link_missing 0 c.links n missing in
     ap joined none
 
-good_at : (links : List Link) (n : ℕ) (link : Link) → AllByRecursion IsGoodLink links → slice_get links n ≡ Some link → IsGoodLink link
+pub good_at : (links : List Link) (n : ℕ) (link : Link) → AllByRecursion IsGoodLink links → slice_get links n ≡ Some link → IsGoodLink link
 good_at [] n link all there = absurd (cc there)
 good_at (l ∷ links) zero link all there = let same : l ≡ link = cc there in subst IsGoodLink same all.0
 good_at (l ∷ links) (suc n) link all there = good_at links n link all.1 there

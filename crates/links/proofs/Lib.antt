@@ -13,3 +13,4 @@ pub mod Issuing
 pub mod Replays
 mod Subjects
 pub mod SourceForms
+pub mod Journals
