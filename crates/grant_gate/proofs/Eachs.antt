@@ -1,7 +1,7 @@
 -- The items of an array, each of a form.
-use Rattle.std.proofs.Common.{◌≡◌, ℕ, List, [], ◌∷◌, Bool, true, false, ◌&&◌, Option, None, Some, option_map, option_and_then, refl, sym, ap, ◌∙◌, if◌then◌else◌}
+use Rattle.std.proofs.Common.{◌≡◌, List, ◌∷◌, Bool, true, false, ◌&&◌, Option, None, Some, option_map, option_and_then, refl, sym, ◌∙◌, if◌then◌else◌}
 use Rattle.std.specs.List.{list_all}
-use Rattle.serde_json.specs.Data.{Data, Items, no_items, item, Members, no_members, member}
+use Rattle.serde_json.specs.Data.{Data, Items, no_items, item}
 use Rattle.serde_json.specs.Find.{as_str}
 use Rattle.json_text.specs.Document.{item_texts}
 use Rattle.links.specs.Reading.{each_item}

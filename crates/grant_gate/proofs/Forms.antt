@@ -1,5 +1,5 @@
 -- The facts whose parts are each of their forms are the facts that are of their forms.
-use Rattle.std.proofs.Common.{◌≡◌, ◌^◌, ℕ, Bool, true, false, ◌&&◌, List, ◌∷◌, length, Option, None, Some, option_map, option_and_then, refl, sym, ap, ◌∙◌, nat_lt, nat_le, codes, if◌then◌else◌}
+use Rattle.std.proofs.Common.{◌≡◌, ◌^◌, ℕ, Bool, true, false, ◌&&◌, List, length, Option, None, Some, option_map, option_and_then, refl, sym, ap, ◌∙◌, nat_lt, nat_le, codes, if◌then◌else◌}
 use Rattle.std.specs.List.{list_all}
 use Rattle.std.specs.Str.{bytes_eq}
 use Rattle.std.specs.Str.Parse.{digits_value}
@@ -19,7 +19,7 @@ use Rattle.links.specs.Facts.{Facts}
 use Rattle.links.specs.Forms.{is_pool, is_attribute, is_who, are_actors, are_words, is_facts}
 use Rattle.links.specs.Payload.{payload_text}
 use Rattle.links.specs.Reading.{each_item, list_at, names_in, words_in, pool_in, attributes_in, outside_in, who_in, who_by, assembled, facts_in, payload_facts}
-use Rattle.grant_gate.specs.Formed.{formed, are_names, act_in, may_act_in, date_in, number_in, account_in, scope_in, scopes_in, formed_attributes, attributes_at, groups_at, pool_at, subject_at, formed_outside_in, formed_who_by, formed_who_in, formed_in}
+use Rattle.grant_gate.specs.Formed.{formed, are_names, act_in, may_act_in, date_in, number_in, account_in, scope_in, scopes_in, groups_at, subject_at, formed_outside_in, formed_who_by, formed_who_in, formed_in}
 use Rattle.grant_gate.proofs.Eachs.{each_formed, item_texts-each}
 use Rattle.grant_gate.proofs.Options.{both, same, formed-some, formed-is, formed-both, formed-then, formed-self}
 

@@ -1,7 +1,6 @@
 -- Options and tests.
 use Rattle.std.proofs.Common.{◌≡◌, Bool, true, false, ◌&&◌, Option, None, Some, option_and_then, refl, sym, ap, ◌∙◌, if◌then◌else◌}
 use Rattle.std.proofs.lemmas.Option.{cond_some}
-use Rattle.json_text.specs.Forms.{passing}
 use Rattle.grant_gate.specs.Formed.{formed}
 
 pub both : (a b : Bool) → (a && b) ≡ true → (a ≡ true) × (b ≡ true)

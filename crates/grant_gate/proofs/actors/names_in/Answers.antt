@@ -1,4 +1,4 @@
-use Rattle.std.proofs.Common.{◌≡◌, ◌∙◌, refl, sym, ap, option_map, arith}
+use Rattle.std.proofs.Common.{◌∙◌, refl, sym, ap, option_map, arith}
 use Rattle.serde_json.specs.View.{view}
 use Rattle.grant_gate.proofs.Steps.{names-begin, names-more}
 use Rattle.grant_gate.proofs.actors.names_in.Goals as goal

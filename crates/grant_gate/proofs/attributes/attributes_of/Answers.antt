@@ -1,4 +1,4 @@
-use Rattle.std.proofs.Common.{◌≡◌, ◌∷◌, ◌∙◌, sym, refl, ap, rules, string_bytes}
+use Rattle.std.proofs.Common.{◌≡◌, ◌∷◌, ◌∙◌, rules}
 use Rattle.grant_gate.proofs.AttributeSteps.{read-begin, read-more}
 use Rattle.grant_gate.proofs.attributes.attributes_of.Goals as goal
 
