@@ -1,30 +1,26 @@
 -- The gate agrees with the chain of a recorded link.
-use Rattle.std.proofs.Common.{◌≡◌, ℕ, ◌<◌, ◌≤◌, ◌^◌, List, [], ◌∷◌, length, Bool, true, false, ◌&&◌, nat_lt, refl, sym, ap, subst, ◌∙◌}
-use Rattle.std.specs.Prelude.{Option, None, Some, Result, Ok, Err, IsUtf8}
+use Rattle.std.proofs.Common.{◌≡◌, ℕ, ◌<◌, ◌^◌, List, Bool, true, false, nat_lt, refl, sym, ap}
+use Rattle.std.specs.Prelude.{None, Some, Result, Ok, Err, IsUtf8}
 use Rattle.std.specs.Result.{IsOkAnd}
 use Rattle.allow_policy.specs.Granting.{granted, scope_allows}
 use Rattle.hmac_jws.specs.Compact.{compact}
-use Rattle.hmac_jws.specs.Verified.{first_jws_fault, payload_of, MacGood}
+use Rattle.hmac_jws.specs.Verified.{first_jws_fault, payload_of}
 use Rattle.hmac_jws.proofs.Issued.{MacGood-compact, payload_of-compact}
 use Rattle.service_view.specs.View.{View, pool_enabled}
 use Rattle.links.specs.declared.link.Link.{Link}
-use Rattle.links.specs.declared.link.LinkKind.{LinkKind}
-use Rattle.links.specs.declared.link.LinkKind.TheVariants.{Federated}
 use Rattle.links.specs.declared.link.Source.{Source}
-use Rattle.links.specs.Authority.{admits}
-use Rattle.links.specs.Chain.{Chain, Root, Own, own_at}
+use Rattle.links.specs.Chain.{Chain, Root, Own}
 use Rattle.links.specs.Exact.{IsGoodLink}
 use Rattle.links.specs.Facts.{Facts, facts_of, exp_of, who_of}
-use Rattle.links.specs.Payload.{link_chain, root_of, payload_text}
+use Rattle.links.specs.Payload.{link_chain, payload_text}
 use Rattle.links.specs.Reading.{payload_facts}
 use Rattle.links.specs.State.{Content, token_text}
 use Rattle.links.proofs.ExactTexts.{IsBytes-payload_text}
 use Rattle.links.proofs.GoodLinks.{exact-good}
 use Rattle.links.proofs.Says.{link_back}
-use Rattle.grant_gate.specs.Carried.{carried_of, carried_after, claimed}
+use Rattle.grant_gate.specs.Carried.{carried_of}
 use Rattle.grant_gate.specs.Decision.{decided, facts_decision, carried_decision, link_decision, first_denial}
 use Rattle.grant_gate.specs.Facts.{token_facts}
-use Rattle.grant_gate.specs.declared.decision.Decision.{Decision}
 use Rattle.grant_gate.specs.declared.facts.TokenFacts.{TokenFacts}
 use Rattle.grant_gate.specs.declared.fault.GateFault.{GateFault}
 

@@ -1,11 +1,10 @@
 -- A check is what the token carries, in each state that is kept.
 use Rattle.std.proofs.Common.{◌≡◌, ℕ, List, refl, sym, ap, subst, ◌∙◌, ◌⊎◌, inl, inr}
 use Rattle.std.specs.Prelude.{Option, None, Some, option_and_then}
-use Rattle.links.specs.Chain.{Chain}
 use Rattle.links.specs.Issued.{issued_link}
 use Rattle.links.specs.Payload.{link_chain}
-use Rattle.links.specs.State.{Content, chain, token_text}
-use Rattle.links.proofs.Issuing.{IsKept, IsIssued, IssuedOrNot, issued_cases}
+use Rattle.links.specs.State.{Content, chain}
+use Rattle.links.proofs.Issuing.{IsKept, IsIssued, issued_cases}
 use Rattle.grant_gate.specs.Decision.{carried_decision, check_decision, chain_or_carried, issued_chain, link_decision}
 use Rattle.grant_gate.proofs.Agrees.{agrees}
 

@@ -1,16 +1,15 @@
 -- The gate agrees with the chains of each journal, and goes on to.
-use Rattle.std.proofs.Common.{◌≡◌, ◌≤◌, ◌<◌, ◌+◌, ◌^◌, ◌++◌, ℕ, List, length, refl, sym, ◌∙◌, ap, subst, arith}
-use Rattle.std.specs.Prelude.{Some, slice_get, IsUtf8}
+use Rattle.std.proofs.Common.{◌≡◌, ◌<◌, ◌^◌, ◌++◌, ℕ, List, length, sym, ◌∙◌, subst, arith}
+use Rattle.std.specs.Prelude.{Some, IsUtf8}
 use Rattle.std.specs.List.{AllByRecursion}
 use Rattle.std.proofs.lemmas.Option.{slice_get_within}
 use Rattle.links.specs.declared.config.Config.{Config}
 use Rattle.links.specs.declared.entry.Entry.{Entry}
 use Rattle.links.specs.Chain.{Chain}
 use Rattle.links.specs.Entries.{IsEntry, IsFormedConfig}
-use Rattle.links.specs.Payload.{link_chain}
 use Rattle.links.specs.State.{Content, chain, start_of, state_after, token_text}
 use Rattle.links.proofs.Issuing.{good_at}
-use Rattle.links.proofs.Journals.{follows, state_after-append, link_of_chain}
+use Rattle.links.proofs.Journals.{follows, link_of_chain}
 use Rattle.grant_gate.specs.Decision.{carried_decision, link_decision}
 use Rattle.grant_gate.proofs.Agrees.{agrees}
 

@@ -1,13 +1,11 @@
 -- What a gate decides of a token: by what it carries, and by the recorded link that it was issued for.
 use Rattle.std.specs.Prelude.{ℕ, ◌+◌, List, [], ◌∷◌, Bool, true, false, Option, None, Some, option_map, option_and_then, nat_lt, Result, Ok, Err, if◌then◌else◌}
-use Rattle.json_text.specs.Rules.{first_of, first_failing}
-use Rattle.iam_names.specs.declared.pool_name.PoolName.{PoolName}
-use Rattle.iam_names.specs.declared.who.Who.{Who}
+use Rattle.json_text.specs.Rules.{first_failing}
 use Rattle.allow_policy.specs.Granting.{granted, scope_allows}
 use Rattle.service_view.specs.View.{View, pool_enabled, account_enabled}
 use Rattle.links.specs.Authority.{admits}
 use Rattle.links.specs.Chain.{Chain}
-use Rattle.links.specs.Facts.{Facts, exp_of, who_of, pools_of, accounts_of, scopes_of}
+use Rattle.links.specs.Facts.{Facts, exp_of, pools_of, accounts_of, scopes_of}
 use Rattle.links.specs.Issued.{issued_link}
 use Rattle.links.specs.State.{Content, chain}
 use Rattle.grant_gate.specs.Carried.{carried_of}

@@ -1,5 +1,5 @@
 -- Where the link of a token is found.
-use Rattle.std.proofs.Common.{◌≡◌, ◌≢◌, ◌<◌, ◌^◌, ℕ, zero, suc, List, [], ◌∷◌, length, ◌⊎◌, inl, inr, Bool, true, false, refl, sym, ◌∙◌, ap, subst, arith}
+use Rattle.std.proofs.Common.{◌≡◌, ◌<◌, ◌^◌, ℕ, zero, suc, List, [], ◌∷◌, length, ◌⊎◌, inl, inr, true, false, refl, sym, ◌∙◌, ap, subst, arith}
 use Rattle.std.specs.Prelude.{Option, None, Some, option_and_then, slice_get, codes, IsUtf8}
 use Rattle.std.specs.Fmt.{decimal}
 use Rattle.std.specs.List.{AllByRecursion}
@@ -13,7 +13,7 @@ use Rattle.links.specs.declared.link.Link.{Link}
 use Rattle.links.specs.declared.link.LinkKind.{LinkKind}
 use Rattle.links.specs.declared.link.LinkKind.TheVariants.{Federated}
 use Rattle.links.specs.Chain.{Chain, chains_of, joined, own_at}
-use Rattle.links.specs.Exact.{IsExact, IsGoodLink}
+use Rattle.links.specs.Exact.{IsGoodLink}
 use Rattle.links.specs.Facts.{facts_of}
 use Rattle.links.specs.Issued.{place_of, is_text_of, issued_link}
 use Rattle.links.specs.Payload.{link_chain, root_of, payload_text}
@@ -146,13 +146,17 @@ issued_by c text kept (inr found) =
     let at = chain_found-all c.links found.number found.element there in
     let passes : is_text_of c text (Some (link_chain found.number at.link)) ≡ true = subst (λ (o : Option Chain). is_text_of c text o ≡ true) at.is found.passes in
     let within : found.number < length c.links = slice_get_within c.links found.number at.link at.there in
-    inr (found.number, at.link, record {
-      number = found.is;
-      chain_is = chain-there c found.number at.link at.there;
-      text_is = (bytes_eq-Decides (token_text c (link_chain found.number at.link)) text).0 passes;
-      low = omega (arith, within, kept.few);
-      good = good_at c.links found.number at.link kept.links at.there;
-    })
+    inr (
+      found.number,
+      at.link,
+      record {
+        number = found.is;
+        chain_is = chain-there c found.number at.link at.there;
+        text_is = (bytes_eq-Decides (token_text c (link_chain found.number at.link)) text).0 passes;
+        low = omega (arith, within, kept.few);
+        good = good_at c.links found.number at.link kept.links at.there;
+      },
+    )
 
 pub issued_cases : (c : Content) (text : List ℕ) → IsKept c → IssuedOrNot c text
 issued_cases c text kept = issued_by c text kept (cases (is_text_of c text) (chains_of c.links))

@@ -1,15 +1,13 @@
 -- The links that a journal's entries leave have their forms.
-use Rattle.std.proofs.Common.{◌≡◌, ◌≤◌, ◌<◌, ◌+◌, ◌^◌, ℕ, List, [], ◌∷◌, ◌++◌, length, Bool, true, false, ◌&&◌, not, nat_le, refl, sym, ◌∙◌, ap, subst, arith, length-append}
+use Rattle.std.proofs.Common.{◌≡◌, ◌≤◌, ◌+◌, ℕ, List, [], ◌∷◌, ◌++◌, length, Bool, true, false, ◌&&◌, not, nat_le, refl, sym, ◌∙◌, subst, arith, length-append}
 use Rattle.std.specs.Prelude.{Option, None, Some, Result, Ok, Err, slice_get, option_map, if◌then◌else◌}
 use Rattle.std.specs.Result.{result_ok}
 use Rattle.std.specs.List.{AllByRecursion, list_all}
-use Rattle.std.specs.Str.{IsUtf8, bytes_eq}
+use Rattle.std.specs.Str.{bytes_eq}
 use Rattle.iam_names.specs.Audience.{audience_text}
 use Rattle.iam_names.specs.Forms.{is_scope_word}
-use Rattle.iam_names.specs.declared.audience.Audience.{Audience}
 use Rattle.json_text.specs.Rules.{fails_if}
 use Rattle.service_view.specs.View.{pool_enabled}
-use Rattle.links.specs.declared.config.Config.{Config}
 use Rattle.links.specs.declared.config.StartProvider.{StartProvider}
 use Rattle.links.specs.declared.entry.Entry.{Entry}
 use Rattle.links.specs.declared.entry.Entry.TheVariants as entry
@@ -19,9 +17,9 @@ use Rattle.links.specs.declared.fault.RuleCode.TheVariants.{E14, E15}
 use Rattle.links.specs.declared.link.Link.{Link}
 use Rattle.links.specs.declared.link.Source.{Source}
 use Rattle.links.specs.Chain.{Chain, chains_of, joined}
-use Rattle.links.specs.Entries.{IsEntry, IsExchange, HasGoodPool, IsFormedConfig}
+use Rattle.links.specs.Entries.{IsEntry, IsExchange, HasGoodPool}
 use Rattle.links.specs.Exact.{IsGoodLink, IsGoodPool, IsGoodSource}
-use Rattle.links.specs.Forms.{IsFormedSource, are_words}
+use Rattle.links.specs.Forms.{IsFormedSource}
 use Rattle.links.specs.Payload.{link_chain}
 use Rattle.links.specs.Sources.{◌>>=◌, passed, source_of, provider_name}
 use Rattle.links.specs.State.{Content, named, source_at, federated_link, link_of, with_link, after, state_after, chain}

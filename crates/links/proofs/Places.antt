@@ -1,13 +1,12 @@
 -- The least place of an element that passes, and the chains of links without parents.
-use Rattle.std.proofs.Common.{◌≡◌, ◌≢◌, ◌<◌, ◌≤◌, ◌+◌, ◌⊎◌, inl, inr, ⊎_elim, ℕ, zero, suc, List, [], ◌∷◌, ◌++◌, length, Bool, true, false, refl, sym, ◌∙◌, ap, subst, arith, append_assoc, append-nil, length-append, add-one}
-use Rattle.std.specs.Prelude.{Option, None, Some, slice_get, option_map, if◌then◌else◌}
+use Rattle.std.proofs.Common.{◌≡◌, ◌+◌, ◌⊎◌, inl, inr, ℕ, zero, suc, List, [], ◌∷◌, ◌++◌, length, Bool, true, false, refl, sym, ◌∙◌, ap, subst, arith, append_assoc, append-nil, length-append, add-one}
+use Rattle.std.specs.Prelude.{Option, None, Some, slice_get}
 use Rattle.links.specs.Issued.{place_of}
 use Rattle.links.specs.declared.link.Link.{Link}
 use Rattle.links.specs.declared.link.LinkKind.{LinkKind}
 use Rattle.links.specs.declared.link.LinkKind.TheVariants.{Federated}
-use Rattle.links.specs.Chain.{Chain, Root, chains_of, chains_after, next_chain, chain_at, chain_of_kind, own_at, joined}
+use Rattle.links.specs.Chain.{Chain, chains_of, chains_after, next_chain, chain_of_kind, own_at}
 use Rattle.links.specs.Payload.{link_chain, root_of}
-use Rattle.links.proofs.Chains.{chain_at-last}
 
 -- no element passes
 pub NoneAt : {A : Type 0} → (A → Bool) → List A → Type 0

@@ -1,6 +1,6 @@
 -- What the rules of an entry say of its link.
 use Rattle.std.proofs.Common.{◌≡◌, ℕ, List, [], ◌∷◌, length, Bool, true, false, not, refl, sym, ◌∙◌, ap, subst}
-use Rattle.std.specs.Prelude.{Option, None, Some, Result, Ok, Err, option_map, nat_lt, ⊤, if◌then◌else◌}
+use Rattle.std.specs.Prelude.{Option, None, Some, Result, Ok, Err, option_map, nat_lt, if◌then◌else◌}
 use Rattle.std.specs.List.{list_all}
 use Rattle.json_text.specs.Rules.{fails_if, first_of}
 use Rattle.links.specs.declared.entry.Entry.{Entry}
@@ -17,14 +17,14 @@ use Rattle.links.specs.declared.link.Link.{Link}
 use Rattle.links.specs.declared.link.LinkKind.{LinkKind}
 use Rattle.links.specs.declared.link.LinkKind.TheVariants as kind
 use Rattle.links.specs.declared.link.Source.{Source}
-use Rattle.links.specs.Chain.{Chain, chains_of, next_chain, chain_of_kind, own_at}
-use Rattle.links.specs.Facts.{facts_of, exp_of}
-use Rattle.links.specs.Payload.{link_chain, root_of, payload_text}
+use Rattle.links.specs.Chain.{Chain, chains_of, chain_of_kind, own_at}
+use Rattle.links.specs.Facts.{exp_of}
+use Rattle.links.specs.Payload.{link_chain, root_of}
 use Rattle.links.specs.Made.{made_of, finish, sized, next_token, next_payload, readied}
 use Rattle.links.specs.declared.recording.Made.{Made}
 use Rattle.links.specs.Sources.{passed, ◌>>=◌}
 use Rattle.links.specs.State.{Content, link_of, made, made_by, source_at, federated_link, token_text}
-use Rattle.links.specs.Licence.{first_unlicensed, licensed_link, knows_word, fault_of, is_long, rule_of, prepared_of, Licensed, Prepares}
+use Rattle.links.specs.Licence.{first_unlicensed, licensed_link, knows_word, is_long, rule_of, prepared_of, Licensed, Prepares}
 use Rattle.links.specs.Reads.{Gives}
 use Rattle.links.specs.declared.fault.ApplyFault.TheVariants.{Unlicensed, Memory}
 use Rattle.links.specs.declared.prepared.Prepared.{Prepared}

@@ -1,6 +1,6 @@
 -- What an outside token gives under a provider, or the first rule that it fails.
-use Rattle.std.specs.Prelude.{ℕ, List, [], ◌∷◌, ◌++◌, length, codes, Bool, not, ◌||◌, Option, None, Some, option_and_then, nat_lt, is_none, Result, Ok, Err, if◌then◌else◌}
-use Rattle.std.specs.List.{list_any, find}
+use Rattle.std.specs.Prelude.{ℕ, List, [], ◌∷◌, ◌++◌, length, codes, Bool, not, ◌||◌, Option, None, Some, option_and_then, nat_lt, Result, Ok, Err, if◌then◌else◌}
+use Rattle.std.specs.List.{list_any}
 use Rattle.std.specs.Str.{bytes_eq}
 use Rattle.json_text.specs.Rules.{fails_if, first_of}
 use Rattle.hmac_jws.specs.Verified.{first_jws_fault, payload_of}
@@ -17,7 +17,6 @@ use Rattle.wif_claims.specs.Timing.{timing_of}
 use Rattle.iam_names.specs.declared.audience.Audience.{Audience}
 use Rattle.iam_names.specs.Audience.{audience_text}
 use Rattle.links.specs.declared.config.StartProvider.{StartProvider}
-use Rattle.links.specs.declared.fault.MapFault.{MapFault}
 use Rattle.links.specs.declared.fault.MapFault.TheVariants.{Issuer, Audience as NoAudience, Expired, NotYet, Subject, TooLong}
 use Rattle.links.specs.declared.fault.RuleCode.{RuleCode}
 use Rattle.links.specs.declared.fault.RuleCode.TheVariants.{E16, E17, E18, E19}

@@ -1,5 +1,5 @@
 -- The state that a journal's entries leave.
-use Rattle.std.specs.Prelude.{◌≡◌, ℕ, List, [], ◌∷◌, ◌++◌, length, Option, None, Some, option_map, nat_lt, Bool, not, ◌&&◌, Result, Ok, Err, if◌then◌else◌}
+use Rattle.std.specs.Prelude.{◌≡◌, ℕ, List, [], ◌∷◌, ◌++◌, Option, None, Some, option_map, not, Result, Ok, Err, if◌then◌else◌}
 use Rattle.std.specs.Result.{result_ok}
 use Rattle.std.specs.Str.{bytes_eq}
 use Rattle.hmac_jws.specs.Compact.{compact}
@@ -9,19 +9,17 @@ use Rattle.links.specs.declared.config.Config.{Config}
 use Rattle.links.specs.declared.config.StartProvider.{StartProvider}
 use Rattle.links.specs.declared.entry.Entry.{Entry}
 use Rattle.links.specs.declared.entry.Entry.TheVariants as entry
-use Rattle.links.specs.declared.entry.Exchange.{Exchange}
 use Rattle.links.specs.declared.fault.RuleCode.{RuleCode}
 use Rattle.links.specs.declared.fault.RuleCode.TheVariants.{E14, E15}
 use Rattle.links.specs.declared.link.Link.{Link}
 use Rattle.links.specs.declared.link.LinkKind.TheVariants as kind
 use Rattle.links.specs.declared.link.Source.{Source}
 use Rattle.links.specs.Chain.{Chain, chains_of, chain_at, next_chain}
-use Rattle.links.specs.Facts.{facts_of, exp_of}
+use Rattle.links.specs.Facts.{facts_of}
 use Rattle.links.specs.Payload.{payload_text}
 use Rattle.links.specs.Sources.{◌>>=◌, passed, source_of, provider_name}
 use Rattle.json_text.specs.Rules.{fails_if}
 use Rattle.iam_names.specs.declared.pool_name.PoolName.{PoolName}
-use Rattle.service_view.specs.declared.command.Command.{Command}
 use Rattle.service_view.specs.declared.ready_command.Ready.{Ready}
 use Rattle.service_view.specs.Puts.{command_of, made_ready}
 use Rattle.service_view.specs.View.{View, start_view, view_after, pool_enabled}

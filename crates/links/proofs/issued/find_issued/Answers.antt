@@ -1,5 +1,5 @@
-use Rattle.std.proofs.Common.{◌≡◌, ◌<◌, ◌^◌, ◌≤◌, ◌∙◌, ℕ, List, false, true, sym, ap, subst, length, arith, rules}
-use Rattle.std.specs.Prelude.{Some, None, IsUtf8}
+use Rattle.std.proofs.Common.{◌≡◌, ℕ, List, false, true, sym, subst, arith, rules}
+use Rattle.std.specs.Prelude.{IsUtf8}
 use Rattle.links.specs.Issued.{is_text_of}
 use Rattle.links.specs.State.{chain}
 use Rattle.links.proofs.Issuing.{IsKept, Tells, none-told, some-told, other-told}

@@ -1,4 +1,4 @@
-use Rattle.std.proofs.Common.{◌≡◌, ◌<◌, ◌^◌, ◌∙◌, refl, arith}
+use Rattle.std.proofs.Common.{◌<◌, ◌^◌, ◌∙◌, refl, arith}
 use Rattle.std.proofs.lemmas.Fmt.{parse-decimal}
 use Rattle.links.proofs.issued.number_of.Goals as goal
 

@@ -1,5 +1,4 @@
-use Rattle.std.proofs.Common.{◌≡◌, ◌∙◌}
-use Rattle.std.specs.Prelude.{Err}
+use Rattle.std.proofs.Common.{◌∙◌}
 use Rattle.links.proofs.Preparing.{prepares, refused_at}
 use Rattle.links.proofs.recording.prepare_exchange.Goals as goal
 

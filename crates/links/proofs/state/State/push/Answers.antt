@@ -1,5 +1,5 @@
 use Rattle.std.proofs.Common.{rules, ◌≡◌, ◌++◌, ◌∷◌, [], ◌∙◌, ◌≤◌, ap, sym, subst, List}
-use Rattle.std.specs.Prelude.{Option, Some, None, IfSome, vec_len}
+use Rattle.std.specs.Prelude.{Option, IfSome, vec_len}
 use Rattle.std.specs.List.{AllByRecursion}
 use Rattle.links.specs.declared.link.Link.{Link}
 use Rattle.links.specs.Exact.{IsGoodLink}
