@@ -1,21 +1,25 @@
 #!/usr/bin/env bash
 # Lines a second and the peak of memory of `sts cel` over lines of some 60 bytes, and the time a token of texts of 32
-# and of 512 tokens, however they nest.
+# and of 512 tokens, however they nest. Times are the processor's, so that other work on the machine counts little.
 . "$(dirname "$0")/setup.sh"
 python3 - "$work" <<'END'
-import json, resource, subprocess, sys, time
+import json, resource, subprocess, sys
 work = sys.argv[1]
 
-def run(lines):
+def used():
+    usage = resource.getrusage(resource.RUSAGE_CHILDREN)
+    return usage.ru_utime + usage.ru_stime
+
+def run(lines, times):
     with open(work + '/input', 'wb') as f:
-        f.write(lines)
+        for _ in range(times):
+            f.write(lines)
     with open(work + '/input', 'rb') as source, open(work + '/output', 'wb') as sink:
-        start = time.monotonic()
+        before = used()
         status = subprocess.run([work + '/sts', 'cel'], stdin=source, stdout=sink).returncode
-        seconds = time.monotonic() - start
     if status != 0:
         sys.exit(f'status {status}')
-    return seconds
+    return used() - before
 
 def line(text):
     return json.dumps({'expr': text}, separators=(',', ':')).encode() + b'\n'
@@ -27,7 +31,7 @@ some = b''.join(line(text) for text in [
     'groups.exists(g, g == "admins") ? "high" : "low"',
     '(assertion.iat + 3600) * 2 <= assertion.exp - 15'])
 for count in (10000, 100000, 1000000):
-    seconds = run(some * (count // 4))
+    seconds = run(some, count // 4)
     peak = resource.getrusage(resource.RUSAGE_CHILDREN).ru_maxrss
     print(f'{count:10} {len(some) / 4:10.1f} {seconds:10.3f} {count / seconds:10.0f} {peak:10}', flush=True)
 
@@ -62,12 +66,12 @@ shapes = {
     'a[0][0]': lambda tokens: padded(('', 0), '[0]', 3, ('', 0), tokens),
 }
 print(f"\n{'text':14} {'32: ns/token':>14} {'512: ns/token':>14}")
-start = min(run(b'') for _ in range(5))
+start = min(run(b'', 0) for _ in range(5))
 for name, text in shapes.items():
     costs = []
     for tokens in (32, 512):
         count = 1024000 // tokens
-        seconds = min(run(line(text(tokens)) * count) for _ in range(3)) - start
+        seconds = min(run(line(text(tokens)), count) for _ in range(3)) - start
         with open(work + '/output', 'rb') as answers:
             if not answers.readline().startswith(b'tree '):
                 sys.exit(f'{name} is no text of the grammar')

@@ -1,11 +1,11 @@
 -- A line has at most one answer, where a text spells at most one tree.
-use Rattle.std.proofs.Common.{◌≡◌, ◌≤◌, ◌<◌, ◌⊎◌, inl, inr, ⊎_elim, ℕ, List, [], ◌∷◌, ◌++◌, refl, sym, ◌∙◌, ap, subst, arith}
+use Rattle.std.proofs.Common.{◌≡◌, ◌≤◌, ◌<◌, ◌⊎◌, inl, inr, ℕ, List, [], ◌∷◌, refl, sym, ◌∙◌, ap, arith}
 use Rattle.std.specs.Prelude.{Option, None, Some, if◌then◌else◌, nat_eq}
 use Rattle.cel_values.specs.declared.expr.Expr.{Expr}
 use Rattle.cel_grammar.specs.declared.draft.Draft.{Draft}
 use Rattle.cel_grammar.specs.declared.error.SyntaxRule.{SyntaxRule}
 use Rattle.cel_grammar.specs.declared.error.SyntaxRule.TheVariants.{S1, S2, S3, S4, S5, S6, L1, L2}
-use Rattle.cel_grammar.specs.Faults.{SpellsDraft, HasNoFault, IsFirstFault, ComesFirst, rank}
+use Rattle.cel_grammar.specs.Faults.{SpellsDraft, HasNoFault, IsFirstFault, rank}
 use Rattle.cel_syntax.specs.MacroFaults.{faults_of, first_macro_fault}
 use Rattle.cel_syntax.specs.declared.macro_faults.MacroFault.{MacroFault}
 use Rattle.cel_syntax.specs.Parse.{Spells, IsMacroFault, IsFirstSyntaxFault}

@@ -1,5 +1,5 @@
 -- A run over lines, line by line.
-use Rattle.std.proofs.Common.{◌≡◌, ◌≢◌, ◌≤◌, ◌<◌, ◌+◌, ◌⊎◌, inl, inr, ⊎_elim, ℕ, suc, List, [], ◌∷◌, ◌++◌, length, take, drop, refl, sym, ◌∙◌, ap, subst, arith, append_assoc, length-append}
+use Rattle.std.proofs.Common.{◌≡◌, ◌≢◌, ◌≤◌, ◌+◌, inl, inr, ℕ, List, [], ◌∷◌, ◌++◌, length, take, drop, refl, sym, ◌∙◌, ap, subst, arith, append_assoc, length-append}
 use Rattle.std.proofs.lemmas.List.{append-nil, length-take}
 use Rattle.std.proofs.lemmas.Grind.{flat_map-append}
 use Rattle.std.specs.Prelude.{Option}
@@ -8,11 +8,11 @@ use Rattle.std.specs.Io.KnownBytes.{Keeps, Appends, Consumes, IsAtEnd}
 use Rattle.wif_base.proofs.Known.{appends-nothing, appends-then, consumes-nothing, consumes-then, keeps-consumes}
 use Rattle.wif_base.specs.Carried.{Carried, input_limit}
 use Rattle.wif_base.specs.Output.{IsProperPart}
-use Rattle.cel_lines.specs.Answers.{Answers, AreAnswers, AppendsAnswer}
+use Rattle.cel_lines.specs.Answers.{AreAnswers, AppendsAnswer}
 use Rattle.cel_lines.specs.Front.{IsFeedAt}
 use Rattle.cel_lines.specs.Last.{AnswersLast}
-use Rattle.cel_lines.specs.Lines.{longest, HasNoFeed, IsLine, lines_text, LinesBegin, AreLines, last_line}
-use Rattle.cel_lines.specs.Run.{Begins, EndsAs, LinesRun}
+use Rattle.cel_lines.specs.Lines.{longest, HasNoFeed, IsLine, lines_text, LinesBegin, last_line}
+use Rattle.cel_lines.specs.Run.{EndsAs, LinesRun}
 use Rattle.cel_lines.specs.declared.end.LinesEnd.{LinesEnd}
 use Rattle.cel_lines.specs.declared.end.LinesEnd.TheVariants.{Done, ReadFault, WriteFault, LineTooLong, InputLimit, Memory}
 

@@ -1,4 +1,4 @@
-ghost use Rattle.std.specs.Prelude.{◌≡◌, ◌≤◌, [], length, OnOk, OnErr, IsOk};
+ghost use Rattle.std.specs.Prelude.{◌≡◌, ◌≤◌, [], OnOk, OnErr};
 ghost use Rattle.wif_base.specs.Causes.{Rose};
 ghost use Rattle.wif_base.specs.Output.{WritesText};
 ghost use Rattle.cel_lines.specs.Run.{LinesRun};

@@ -1,4 +1,4 @@
-use Rattle.std.proofs.Common.{◌≡◌, ◌≢◌, [], rules}
+use Rattle.std.proofs.Common.{◌≢◌, [], rules}
 use Rattle.cel_lines.proofs.Runs.{last_done, last_broken}
 use Rattle.cel_lines.proofs.run.answer_last.Goals as goal
 

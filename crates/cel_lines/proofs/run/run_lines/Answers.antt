@@ -1,13 +1,13 @@
-use Rattle.std.proofs.Common.{◌≡◌, ◌≤◌, ◌<◌, ◌+◌, ◌-◌, ◌*◌, ◌++◌, [], ◌∷◌, ℕ, List, length, take, drop, refl, sym, ◌∙◌, ap, subst, arith, length-append}
+use Rattle.std.proofs.Common.{◌≡◌, ◌+◌, ◌-◌, ◌++◌, ℕ, List, length, take, refl, sym, ◌∙◌, ap, subst, arith, length-append}
 use Rattle.std.proofs.Math.Seq.{take-append_seam}
-use Rattle.wif_base.specs.Carried.{Carried, input_limit}
+use Rattle.wif_base.specs.Carried.{Carried}
 use Rattle.cel_lines.specs.Answers.{AppendsAnswer}
 use Rattle.cel_lines.specs.Front.{IsAtFront}
-use Rattle.cel_lines.specs.Lines.{HasNoFeed, IsLine}
+use Rattle.cel_lines.specs.Lines.{HasNoFeed}
 use Rattle.cel_lines.specs.declared.front.Front.{Front}
 use Rattle.cel_lines.specs.declared.front.Front.TheVariants.{Line, Part, TooLong}
-use Rattle.cel_lines.specs.declared.end.LinesEnd.TheVariants.{ReadFault, LineTooLong, InputLimit}
-use Rattle.cel_lines.proofs.Runs.{SoFar, starts, answered, wrote, read_on, kept, finished, past, wanting, broken_off, ended}
+use Rattle.cel_lines.specs.declared.end.LinesEnd.TheVariants.{ReadFault, LineTooLong}
+use Rattle.cel_lines.proofs.Runs.{starts, answered, wrote, read_on, kept, finished, past, wanting, broken_off, ended}
 use Rattle.cel_lines.proofs.run.run_lines.Goals as goal
 
 at_front : {buffer bytes : List ℕ} {front there : Front} → bytes ≡ buffer → front ≡ there → IsAtFront bytes front → IsAtFront buffer there

@@ -1,6 +1,4 @@
-use Rattle.std.proofs.Common.{◌≡◌, ◌≢◌, [], ⊎_elim, refl, sym, ◌∙◌, arith}
-use Rattle.std.specs.Prelude.{Some}
-use Rattle.wif_tool.specs.declared.command.Command.TheVariants.{Cel, Script}
+use Rattle.std.proofs.Common.{◌≡◌, [], ⊎_elim, arith}
 use Rattle.wif_tool.proofs.LineStatus.{lines_complete, lines_too_long}
 use Rattle.wif_tool.proofs.Outcome.{ran, stopped_complete, not_refused, status_zero, status_eight, nothing_left, complete}
 use Rattle.wif_tool.proofs.run.sts_run.Goals as goal
