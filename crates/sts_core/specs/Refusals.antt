@@ -1,5 +1,5 @@
 -- The replies to what a rule forbids.
-use Rattle.std.specs.Prelude.{ℕ, ◌++◌, List, [], codes}
+use Rattle.std.specs.Prelude.{ℕ, ◌++◌, List, codes}
 use Rattle.std.specs.Fmt.{decimal}
 use Rattle.wif_base.specs.declared.request.Reply.{Reply}
 use Rattle.hmac_jws.specs.declared.fault.JwsFault.{JwsFault}
@@ -12,7 +12,7 @@ use Rattle.links.specs.declared.fault.RuleCode.{RuleCode}
 use Rattle.links.specs.declared.fault.RuleCode.TheVariants.{E11, E14, E15, E16, E17, E18, E19, E25, A4, A6}
 use Rattle.sts_admin.specs.Names.{member_name}
 use Rattle.sts_admin.specs.declared.command.CommandFault.{CommandFault}
-use Rattle.sts_admin.specs.declared.command.CommandFault.TheVariants.{Kind, Field, Memory}
+use Rattle.sts_admin.specs.declared.command.CommandFault.TheVariants.{Field}
 use Rattle.sts_core.specs.Replies.{refusal, bad_argument}
 
 abbrev pub jws_text : JwsFault → List ℕ

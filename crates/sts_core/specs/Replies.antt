@@ -1,5 +1,5 @@
 -- The replies of the service.
-use Rattle.std.specs.Prelude.{ℕ, ◌-◌, List, [], ◌++◌, codes, Option, unwrap_or}
+use Rattle.std.specs.Prelude.{ℕ, ◌-◌, List, [], ◌++◌, codes, unwrap_or}
 use Rattle.std.specs.Fmt.{decimal}
 use Rattle.serde_json.specs.Data.{Data, number, unsigned, string, object, member, no_members}
 use Rattle.serde_json.specs.Written.{compact_text}

@@ -1,5 +1,5 @@
 -- The commands that aren't built yet: those of kind `provider`, and policies with a condition.
-use Rattle.std.specs.Prelude.{List, ℕ, Bool, true, false, ◌||◌, ◌&&◌, Option, None, Some, option_and_then, is_some, codes}
+use Rattle.std.specs.Prelude.{List, ℕ, Bool, false, ◌||◌, ◌&&◌, Option, None, Some, option_and_then, is_some, codes}
 use Rattle.std.specs.Str.{bytes_eq}
 use Rattle.serde_json.specs.Data.{Data, Items, no_items, item}
 use Rattle.serde_json.specs.Find.{get, as_array}

@@ -1,8 +1,7 @@
-use Rattle.std.proofs.Common.{◌≡◌, ◌<◌, ◌^◌, ◌≤◌, ◌∙◌, ℕ, List, sym, ap, subst, length, arith, refl}
+use Rattle.std.proofs.Common.{◌∙◌, subst, arith, refl}
 use Rattle.std.specs.Prelude.{IsUtf8}
 use Rattle.std.proofs.lemmas.Result.{IfOk-weaker}
 use Rattle.links.proofs.Issuing.{IsKept}
-use Rattle.grant_gate.specs.Decision.{carried_decision}
 use Rattle.grant_gate.proofs.Checks.{check_is}
 use Rattle.sts_core.proofs.checking.decide_token.Goals as goal
 
