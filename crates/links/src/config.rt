@@ -61,6 +61,7 @@ impl StartProvider {
         })
     }
 
+    /// The same once more.
     pub fn copy(&self, alloc: Global) -> Result<Self, AllocError>
         ensures { IfOk result (λ provider. provider ≡ self.now) }
     {
@@ -76,6 +77,7 @@ impl StartProvider {
 impl Config {
     ghost use Rattle.std.specs.Prelude.{◌≡◌, IfOk};
 
+    /// The same once more.
     pub fn copy(&self, alloc: Global) -> Result<Self, AllocError>
         ensures { IfOk result (λ config. config ≡ self.now) }
     {

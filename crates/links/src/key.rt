@@ -41,6 +41,7 @@ impl Key {
         self.bytes.as_slice()
     }
 
+    /// The same once more.
     pub fn copy(&self, alloc: Global) -> Result<Self, AllocError>
         ensures { IfOk result (λ key. key ≡ self.now) }
     {

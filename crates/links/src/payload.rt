@@ -34,6 +34,7 @@ pub fn words_text(alloc: Global, words: &[ScopeWord]) -> Result<Text, AllocError
     Ok(Text::new(text))
 }
 
+/// Puts a text under a name. The name is written as it stands.
 pub fn put_text(
     alloc: Global,
     members: &mut Map<String, Value>,
