@@ -1,6 +1,8 @@
 use crate::Sts;
 use base_types::{Bytes, Text};
-use links::read_service_config;
+use iam_names::PoolName;
+use links::{Entry, apply, exp_of, live, payload_of, read_service_config, words_of};
+use service_view::Command;
 use std::alloc::Global;
 use std::test::Fail;
 use wif_base::{MemDisk, Request, Route};
@@ -53,8 +55,8 @@ fn the_first_exchange_succeeds_and_its_token_is_known(rt: HostRuntime) -> Result
         (Route::Token, EXCHANGE, 1_700_000_000, 200, 924, 1),
         (Route::Introspect, TOKEN, 1_700_000_899, 200, 308, 1),
         (Route::Introspect, TOKEN, 1_700_000_900, 200, 16, 1),
-        (Route::Check, b"{}", 1_700_000_000, 400, 57, 1),
-        (Route::Admin, b"{}", 1_700_000_000, 401, 54, 1),
+        (Route::Check, b"{}", 1_700_000_000, 400, 53, 1),
+        (Route::Admin, b"{}", 1_700_000_000, 401, 50, 1),
     ];
     for (route, body, at, status, size, entries) in cases {
         let request = request(alloc, route, body)?;
@@ -96,7 +98,8 @@ fn calls_of_each_route(rt: HostRuntime) -> Result<(), Fail> {
     let Ok(denial) = sts.check(alloc, &check, 0) else {
         return Err(Fail::from("no reply"));
     };
-    assert!(rt; denial.body.as_slice() == b"{\"allowed\":false,\"reason\":\"G1\"}");
+    let want = "{\"allowed\":false,\"reason\":\"G1\"}";
+    assert!(rt; denial.body.as_slice() == want.as_bytes());
     let Ok(issued) = sts.exchange(alloc, &exchange, 1_700_000_000) else {
         return Err(Fail::from("no reply"));
     };
@@ -106,5 +109,41 @@ fn calls_of_each_route(rt: HostRuntime) -> Result<(), Fail> {
     };
     assert_eq!(rt; told.status, 200);
     assert_eq!(rt; sts.state.entry_count(), 3);
+    Ok(())
+}
+
+// What is recorded of the exchange, and a pool that is switched off behind it.
+#[test]
+fn a_link_lives_until_its_pool_is_off(rt: HostRuntime) -> Result<(), Fail> {
+    let alloc = rt.alloc();
+    let disk = MemDisk::new(alloc, b"", 0, 0, Vec::new(alloc))?;
+    let Ok(config) = read_service_config(alloc, CONFIG) else {
+        return Err(Fail::from("no configuration"));
+    };
+    let mut sts = Sts::open(alloc, disk, &config)?;
+    let exchange = request(alloc, Route::Token, EXCHANGE)?;
+    let _reply = told(alloc, &mut sts, &exchange, 1_700_000_000);
+    if sts.state.links().len() != 1 || sts.state.is_full() {
+        return Err(Fail::from("no link"));
+    }
+    assert!(rt; live(&sts.state, 0, 1_700_000_899) && !live(&sts.state, 0, 1_700_000_900));
+    assert_eq!(rt; exp_of(&sts.state, 0), 1_700_000_900);
+    assert_eq!(rt; words_of(&sts.state, 0).len(), 1);
+    let payload = payload_of(alloc, &sts.state, 0)?;
+    assert!(rt;
+        payload
+            .as_str()
+            .starts_with("{\"exp\":1700000900,\"iat\":1700000000,")
+    );
+    let pool = PoolName::read(alloc, "1234/ci-pool")?;
+    let command = Command::Pool {
+        pool,
+        disabled: true,
+    };
+    assert!(rt; apply(alloc, &mut sts.state, Entry::Put(command)).is_ok());
+    if sts.state.links().len() != 1 {
+        return Err(Fail::from("no link"));
+    }
+    assert!(rt; !live(&sts.state, 0, 1_700_000_100));
     Ok(())
 }
