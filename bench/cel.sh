@@ -1,9 +1,10 @@
 #!/usr/bin/env bash
 # Lines a second and the peak of memory of `sts cel` over lines of some 60 bytes, and the time a token of texts of 32
 # and of 512 tokens, however they nest. Times are the processor's, so that other work on the machine counts little.
+# Where valgrind is there, it counts the instructions a token too, which caches and the C library's heap don't blur.
 . "$(dirname "$0")/setup.sh"
 python3 - "$work" <<'END'
-import json, resource, subprocess, sys
+import json, re, resource, shutil, subprocess, sys
 work = sys.argv[1]
 
 def used():
@@ -65,7 +66,22 @@ shapes = {
     'a.a.a.a': lambda tokens: padded(('', 0), '.a', 2, ('', 0), tokens),
     'a[0][0]': lambda tokens: padded(('', 0), '[0]', 3, ('', 0), tokens),
 }
-print(f"\n{'text':14} {'32: ns/token':>14} {'512: ns/token':>14}")
+def instructions(lines):
+    with open(work + '/input', 'wb') as f:
+        f.write(lines)
+    with open(work + '/input', 'rb') as source:
+        run = subprocess.run(['valgrind', '--tool=callgrind', '--callgrind-out-file=/dev/null', work + '/sts', 'cel'],
+                             stdin=source, capture_output=True)
+    return int(re.search(rb'refs:\s+([0-9,]+)', run.stderr).group(1).replace(b',', b''))
+
+counted = shutil.which('valgrind') is not None
+none = instructions(b'') if counted else 0
+
+def instructions_a_token(text, tokens):
+    count = 10240 // tokens
+    return (instructions(line(text) * count) - none) / (tokens * count)
+
+print(f"\n{'text':14} {'32: ns/token':>14} {'512: ns/token':>14}" + (f" {'32: instr/token':>16} {'512: instr/token':>16}" if counted else ''))
 start = min(run(b'', 0) for _ in range(5))
 for name, text in shapes.items():
     costs = []
@@ -76,5 +92,8 @@ for name, text in shapes.items():
             if not answers.readline().startswith(b'tree '):
                 sys.exit(f'{name} is no text of the grammar')
         costs.append(seconds / (tokens * count) * 1e9)
-    print(f'{name:14} {costs[0]:14.0f} {costs[1]:14.0f}', flush=True)
+    row = f'{name:14} {costs[0]:14.0f} {costs[1]:14.0f}'
+    if counted:
+        row += ''.join(f' {instructions_a_token(text(tokens), tokens):16.0f}' for tokens in (32, 512))
+    print(row, flush=True)
 END

@@ -1,7 +1,7 @@
 use crate::Sts;
 use base_types::{Bytes, Text};
 use iam_names::PoolName;
-use links::{Entry, apply, exp_of, live, payload_of, read_service_config, words_of};
+use links::{Entry, State, apply, exp_of, live, payload_of, read_service_config, words_of};
 use service_view::Command;
 use std::alloc::Global;
 use std::test::Fail;
@@ -112,10 +112,8 @@ fn calls_of_each_route(rt: HostRuntime) -> Result<(), Fail> {
     Ok(())
 }
 
-// What is recorded of the exchange, and a pool that is switched off behind it.
-#[test]
-fn a_link_lives_until_its_pool_is_off(rt: HostRuntime) -> Result<(), Fail> {
-    let alloc = rt.alloc();
+// A service that recorded one exchange.
+fn exchanged(alloc: Global) -> Result<Sts<MemDisk>, Fail> {
     let disk = MemDisk::new(alloc, b"", 0, 0, Vec::new(alloc))?;
     let Ok(config) = read_service_config(alloc, CONFIG) else {
         return Err(Fail::from("no configuration"));
@@ -123,27 +121,43 @@ fn a_link_lives_until_its_pool_is_off(rt: HostRuntime) -> Result<(), Fail> {
     let mut sts = Sts::open(alloc, disk, &config)?;
     let exchange = request(alloc, Route::Token, EXCHANGE)?;
     let _reply = told(alloc, &mut sts, &exchange, 1_700_000_000);
-    if sts.state.links().len() != 1 || sts.state.is_full() {
-        return Err(Fail::from("no link"));
+    Ok(sts)
+}
+
+fn lives(state: &State, at: u64) -> bool {
+    state.links().len() == 1 && live(state, 0, at)
+}
+
+// Whether the link is the one of the exchange.
+fn is_recorded(alloc: Global, state: &State) -> Result<bool, Fail> {
+    if state.links().len() != 1 {
+        return Ok(false);
     }
-    assert!(rt; live(&sts.state, 0, 1_700_000_899) && !live(&sts.state, 0, 1_700_000_900));
-    assert_eq!(rt; exp_of(&sts.state, 0), 1_700_000_900);
-    assert_eq!(rt; words_of(&sts.state, 0).len(), 1);
-    let payload = payload_of(alloc, &sts.state, 0)?;
-    assert!(rt;
-        payload
-            .as_str()
-            .starts_with("{\"exp\":1700000900,\"iat\":1700000000,")
-    );
-    let pool = PoolName::read(alloc, "1234/ci-pool")?;
+    let payload = payload_of(alloc, state, 0)?;
+    let begins = payload
+        .as_str()
+        .starts_with("{\"exp\":1700000900,\"iat\":1700000000,");
+    Ok(begins && exp_of(state, 0) == 1_700_000_900 && words_of(state, 0).len() == 1)
+}
+
+fn switch_off(alloc: Global, state: &mut State) -> Result<bool, Fail> {
+    if state.is_full() {
+        return Ok(false);
+    }
     let command = Command::Pool {
-        pool,
+        pool: PoolName::read(alloc, "1234/ci-pool")?,
         disabled: true,
     };
-    assert!(rt; apply(alloc, &mut sts.state, Entry::Put(command)).is_ok());
-    if sts.state.links().len() != 1 {
-        return Err(Fail::from("no link"));
-    }
-    assert!(rt; !live(&sts.state, 0, 1_700_000_100));
+    Ok(apply(alloc, state, Entry::Put(command)).is_ok())
+}
+
+#[test]
+fn a_link_lives_until_its_pool_is_off(rt: HostRuntime) -> Result<(), Fail> {
+    let alloc = rt.alloc();
+    let mut sts = exchanged(alloc)?;
+    assert!(rt; lives(&sts.state, 1_700_000_899) && !lives(&sts.state, 1_700_000_900));
+    assert!(rt; is_recorded(alloc, &sts.state)?);
+    assert!(rt; switch_off(alloc, &mut sts.state)?);
+    assert!(rt; !lives(&sts.state, 1_700_000_100));
     Ok(())
 }
