@@ -1,0 +1,14 @@
+pub mod AttributeSteps
+pub mod Back
+pub mod Clean
+pub mod Digits
+pub mod Eachs
+pub mod ExactTexts
+pub mod Floats
+pub mod Forms
+pub mod Options
+pub mod Says
+pub mod Steps
+pub mod Utf8
+pub mod Words
+pub mod Writing

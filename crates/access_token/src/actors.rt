@@ -1,0 +1,114 @@
+ghost use Rattle.std.specs.Prelude.{◌≡◌, IfOk, codes, option_map};
+ghost use Rattle.std.specs.List.{list_all};
+ghost use Rattle.serde_json.specs.View.{view};
+ghost use Rattle.json_text.specs.Forms.{has_size as size_is};
+ghost use Rattle.iam_names.specs.Reads.{ReadsName};
+ghost use Rattle.access_token.specs.Forms as form;
+ghost use Rattle.access_token.specs.Reading.{names_in as names_under};
+ghost use Rattle.access_token.specs.Formed.{act_in, may_act_in, are_names as names_form};
+
+use base_types::{Items, Text};
+use iam_names::{Member, NameError};
+use json_text::{has_size, text_at};
+use serde_json::Value;
+use std::alloc::{AllocError, Global};
+
+const MAX_ACTORS: usize = 8;
+
+/// The actors' names, the newest first.
+pub(crate) fn act_at(alloc: Global, json: &Value) -> Result<Items<Text>, NameError>
+    ensures { ReadsName result (act_in (view json.now)) }
+{
+    let names = names_in(alloc, "act", json.get("act"))?;
+    if are_names(alloc, &names)? {
+        Ok(names)
+    } else {
+        Err(NameError::Form)
+    }
+}
+
+/// Those who may act, the next one first.
+pub(crate) fn may_act_at(alloc: Global, json: &Value) -> Result<Items<Text>, NameError>
+    ensures { ReadsName result (may_act_in (view json.now)) }
+{
+    let names = names_in(alloc, "may_act", json.get("may_act"))?;
+    if are_actors(&names) {
+        Ok(names)
+    } else {
+        Err(NameError::Form)
+    }
+}
+
+/// At most 8 names inside one another, the outermost first.
+fn names_in(alloc: Global, name: &str, outermost: Option<&Value>) -> Result<Items<Text>, NameError>
+    ensures { ReadsName result (names_under name.now 8 (option_map (λ value. view value.now) outermost.entry)) }
+{
+    let mut names = Items::new(alloc);
+    let mut left = outermost;
+    for _depth in 0..MAX_ACTORS {
+        let Some(object) = left else {
+            return Ok(names);
+        };
+        let Some(text) = text_at(object, "sub") else {
+            return Err(NameError::Form);
+        };
+        names.push(Text::copy_of(alloc, text)?)?;
+        left = object.get(name);
+    }
+    match left {
+        None => Ok(names),
+        Some(_) => Err(NameError::Form),
+    }
+}
+
+/// Whether these are at most 8 names of principals and service accounts.
+fn are_names(alloc: Global, names: &Items<Text>) -> Result<bool, AllocError>
+    ensures { IfOk result (λ holds. holds ≡ names_form names.now) }
+{
+    if names.len() > MAX_ACTORS {
+        return Ok(false);
+    }
+    are_all_names(alloc, names.as_slice())
+}
+
+fn are_all_names(alloc: Global, names: &[Text]) -> Result<bool, AllocError>
+    ensures { IfOk result (λ holds. holds ≡ list_all form.is_name names.now) }
+{
+    for name in names {
+        if !is_name(alloc, name.as_str())? {
+            return Ok(false);
+        }
+    }
+    Ok(true)
+}
+
+pub(crate) fn is_name(alloc: Global, text: &str) -> Result<bool, AllocError>
+    ensures { IfOk result (λ holds. holds ≡ form.is_name text.now) }
+{
+    match Member::read(alloc, text) {
+        Ok(member) => Ok(is_single(&member)),
+        Err(NameError::Form) => Ok(false),
+        Err(NameError::Memory) => Err(AllocError),
+    }
+}
+
+fn is_single(member: &Member) -> bool
+    ensures { result ≡ form.is_single member.now }
+{
+    match member {
+        Member::Principal { .. } | Member::Account(_) => true,
+        _ => false,
+    }
+}
+
+fn are_actors(names: &Items<Text>) -> bool
+    ensures { result ≡ form.are_actors names.now }
+{
+    names.len() <= MAX_ACTORS && are_sized(names.as_slice())
+}
+
+fn are_sized(names: &[Text]) -> bool
+    ensures { result ≡ list_all (size_is 1 1024) names.now }
+{
+    names.iter().all(|name| has_size(name.as_str(), 1, 1024))
+}

@@ -1,0 +1,147 @@
+ghost use Rattle.std.specs.Prelude.{◌≡◌, codes, IfOk, option_and_then};
+ghost use Rattle.std.specs.Str.{bytes_eq};
+ghost use Rattle.serde_json.specs.View.{view};
+ghost use Rattle.json_text.specs.Document.{document, text_at as text_member};
+ghost use Rattle.iam_names.specs.Reads.{ReadsName};
+ghost use Rattle.access_token.specs.Forms.{is_name as name_form};
+ghost use Rattle.access_token.specs.Formed.{formed, formed_in};
+ghost use Rattle.access_token.specs.Payload.{payload_text};
+ghost use Rattle.access_token.specs.Reading.{payload_facts, ReadsPayload};
+
+use crate::Facts;
+use crate::actors::{act_at, is_name, may_act_at};
+use crate::numbers::{date_at, number_at};
+use crate::payload::write_payload;
+use crate::scopes::scopes_at;
+use crate::who::who_at;
+use crate::wif::{accounts_at, pools_at};
+use base_types::Text;
+use iam_names::NameError;
+use json_text::{DocumentFault, read_document, text_at};
+use serde_json::Value;
+use std::alloc::{AllocError, Global};
+
+/// Why a payload says no facts.
+#[derive(Clone, Copy, Debug, PartialEq, Eq)]
+pub enum PayloadFault {
+    /// It isn't the payload that is written for facts of their forms and the issuer.
+    Form,
+    Memory,
+}
+
+impl From<AllocError> for PayloadFault {
+    ghost use Rattle.std.specs.Prelude.{◌≡◌};
+    ghost use Rattle.access_token.specs.declared.reading.PayloadFault.TheVariants.{Memory};
+
+    ghost from_gives = { λ _ e. e ≡ Memory };
+
+    fn from(_: AllocError) -> Self {
+        PayloadFault::Memory
+    }
+}
+
+/// The facts that a token's payload says that is written for the issuer. `Form` comes exactly where it says none.
+pub fn read_payload(alloc: Global, issuer: &str, payload: &[u8]) -> Result<Facts, PayloadFault>
+    ensures { ReadsPayload result (payload_facts issuer.now payload.now) }
+{
+    written_facts(alloc, issuer, payload)
+}
+
+// The facts in the payload, where the payload is written for them.
+fn written_facts(alloc: Global, issuer: &str, payload: &[u8]) -> Result<Facts, PayloadFault>
+    ensures { ReadsPayload result (formed (λ facts. bytes_eq (payload_text issuer.now facts) payload.now)
+        (option_and_then formed_in (document payload.now))) }
+{
+    let facts = facts_in(alloc, payload)?;
+    match is_written_as(alloc, issuer, &facts, payload) {
+        Ok(true) => Ok(facts),
+        Ok(false) => {
+            drop(facts);
+            Err(PayloadFault::Form)
+        }
+        Err(AllocError) => {
+            drop(facts);
+            Err(PayloadFault::Memory)
+        }
+    }
+}
+
+// Whether the payload is the one that is written for these facts and the issuer.
+fn is_written_as(
+    alloc: Global,
+    issuer: &str,
+    facts: &Facts,
+    payload: &[u8],
+) -> Result<bool, AllocError>
+    ensures { IfOk result (λ same. same ≡ bytes_eq (payload_text issuer.now facts.now) payload.now) }
+{
+    let text = write_payload(alloc, issuer, facts)?;
+    Ok(text.as_str().as_bytes() == payload)
+}
+
+// The facts whose parts stand in a payload, each of its form.
+fn facts_in(alloc: Global, payload: &[u8]) -> Result<Facts, PayloadFault>
+    ensures { ReadsPayload result (option_and_then formed_in (document payload.now)) }
+{
+    match read_document(alloc, payload) {
+        Ok(json) => facts_or(facts_of(alloc, &json)),
+        Err(DocumentFault::NoJson) => Err(PayloadFault::Form),
+        Err(DocumentFault::Memory) => Err(PayloadFault::Memory),
+    }
+}
+
+fn facts_or(read: Result<Facts, NameError>) -> Result<Facts, PayloadFault>
+    ensures { (there : _) → ReadsName read there → ReadsPayload result there }
+{
+    match read {
+        Ok(facts) => Ok(facts),
+        Err(NameError::Form) => Err(PayloadFault::Form),
+        Err(NameError::Memory) => Err(PayloadFault::Memory),
+    }
+}
+
+// The facts whose parts stand in a tree, each of its form.
+#[tactic(auto, unfolding(crate::specs::Formed::formed_in))]
+fn facts_of(alloc: Global, json: &Value) -> Result<Facts, NameError>
+    ensures { ReadsName result (formed_in (view json.now)) }
+{
+    let act = act_at(alloc, json)?;
+    let exp = date_at(json, "exp")?;
+    let iat = date_at(json, "iat")?;
+    let number = number_at(json)?;
+    let may_act = may_act_at(alloc, json)?;
+    let sub = sub_at(alloc, json)?;
+    let Some(wif) = json.get("wif") else {
+        return Err(NameError::Form);
+    };
+    let accounts = accounts_at(alloc, wif)?;
+    let pools = pools_at(alloc, wif)?;
+    let scopes = scopes_at(alloc, wif)?;
+    let who = who_at(alloc, wif)?;
+    Ok(Facts {
+        number,
+        sub,
+        iat,
+        exp,
+        act,
+        may_act,
+        who,
+        pools,
+        accounts,
+        scopes,
+    })
+}
+
+// The name of the subject.
+fn sub_at(alloc: Global, json: &Value) -> Result<Text, NameError>
+    ensures { ReadsName result (formed name_form (text_member (codes "sub") (view json.now))) }
+{
+    let Some(name) = text_at(json, "sub") else {
+        return Err(NameError::Form);
+    };
+    if is_name(alloc, name)? {
+        Ok(Text::copy_of(alloc, name)?)
+    } else {
+        Err(NameError::Form)
+    }
+}

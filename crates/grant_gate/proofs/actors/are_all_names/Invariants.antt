@@ -1,7 +1,0 @@
-use Rattle.std.proofs.Common.{◌≡◌, drop}
-use Rattle.std.specs.List.{list_all}
-use Rattle.links.specs.Forms.{is_name}
-use Rattle.grant_gate.proofs.actors.are_all_names.Given as goal
-
-abbrev pub invariant-loop-name : goal.invariant-loop-name
-invariant-loop-name l = list_all is_name (drop l.name-index l.names) ≡ list_all is_name l.names

@@ -1,5 +1,0 @@
-use Rattle.grant_gate.proofs.AttributeSteps.{IsReadBefore}
-use Rattle.grant_gate.proofs.attributes.attributes_of.Given as goal
-
-abbrev pub invariant-loop-name : goal.invariant-loop-name
-invariant-loop-name l = IsReadBefore l.members.entries l.attributes l.name-iterator

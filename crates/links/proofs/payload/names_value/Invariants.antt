@@ -1,7 +1,0 @@
-use Rattle.std.proofs.Common.{◌≡◌, drop, option_map}
-use Rattle.serde_json.specs.View.{view}
-use Rattle.links.specs.Payload.{nested}
-use Rattle.links.proofs.payload.names_value.Given as goal
-
-abbrev pub invariant-loop-at : goal.invariant-loop-at
-invariant-loop-at l = option_map view l.found ≡ nested l.member_name (drop l.at l.names)

@@ -1,0 +1,163 @@
+ghost use Rattle.std.specs.Prelude.{◌≡◌, IfOk, IsErrOf, codes, option_and_then};
+ghost use Rattle.serde_json.specs.View.{view};
+ghost use Rattle.json_text.specs.Document.{text_at as text_member};
+ghost use Rattle.service_config.specs.Configuration.{IsConfiguration, Reads, config_of, start_at, start_of, key_of, issuer_of, secret_of, is_secret as secret_form};
+ghost use Rattle.service_config.specs.Formed.{IsFormedConfig, IsFormedProvider, IsFormedStart};
+ghost use Rattle.iam_names.specs.PoolName.{pool_of};
+ghost use Rattle.iam_names.specs.Forms.{is_id};
+ghost use Rattle.json_text.specs.Forms.{passing};
+
+use crate::{Config, ConfigError, Key, StartProvider};
+use base_types::{Bytes, Text};
+use base64::DecodeAllocError;
+use base64::engine::general_purpose::URL_SAFE_NO_PAD;
+use iam_names::{NameError, PoolName, ProviderId};
+use json_text::{DocumentFault, has_size, is_visible_text, read_document, text_at};
+use serde_json::Value;
+use std::alloc::Global;
+
+const CONFIG_LIMIT: usize = 65536;
+
+/// Reads the service's configuration, a JSON object of at most 65,536 bytes. `Form` comes exactly where
+/// the bytes are none.
+pub fn read_service_config(alloc: Global, bytes: &[u8]) -> Result<Config, ConfigError>
+    ensures found { IfOk result (IsConfiguration bytes.now) }
+    ensures formed { IfOk result IsFormedConfig }
+    ensures form { IsErrOf result ConfigError.Form → (config : _) → IsConfiguration bytes.now config → ⊥ }
+{
+    if bytes.len() > CONFIG_LIMIT {
+        return Err(ConfigError::Form);
+    }
+    match read_document(alloc, bytes) {
+        Ok(json) => config_from(alloc, &json),
+        Err(DocumentFault::NoJson) => Err(ConfigError::Form),
+        Err(DocumentFault::Memory) => Err(ConfigError::Memory),
+    }
+}
+
+#[tactic(auto, unfolding(crate::specs::Configuration::config_of))]
+fn config_from(alloc: Global, json: &Value) -> Result<Config, ConfigError>
+    ensures read { Reads (λ config. config) result (config_of (view json.now)) }
+    ensures formed { IfOk result IsFormedConfig }
+{
+    let issuer = issuer_at(json)?;
+    let key = key_at(alloc, json)?;
+    let admin = secret_at(json, "admin")?;
+    let gate = secret_at(json, "gate")?;
+    let start = start_from(alloc, json)?;
+    Ok(Config {
+        issuer: Text::copy_of(alloc, issuer)?,
+        key,
+        admin: Text::copy_of(alloc, admin)?,
+        gate: Text::copy_of(alloc, gate)?,
+        start,
+    })
+}
+
+fn start_from(alloc: Global, json: &Value) -> Result<Option<StartProvider>, ConfigError>
+    ensures read { Reads (λ start. start) result (start_at (view json.now)) }
+    ensures formed { IfOk result IsFormedStart }
+{
+    match json.get("start") {
+        Some(start) => Ok(Some(provider_from(alloc, start)?)),
+        None => Ok(None),
+    }
+}
+
+#[tactic(auto, unfolding(crate::specs::Configuration::start_of))]
+fn provider_from(alloc: Global, json: &Value) -> Result<StartProvider, ConfigError>
+    ensures read { Reads (λ provider. provider) result (start_of (view json.now)) }
+    ensures formed { IfOk result IsFormedProvider }
+{
+    let project = member(json, "project")?;
+    let pool = member(json, "pool")?;
+    let pool = pool_from(alloc, project, pool)?;
+    let id = provider_id(alloc, member(json, "provider")?)?;
+    let issuer = issuer_at(json)?;
+    let key = key_at(alloc, json)?;
+    Ok(StartProvider {
+        pool,
+        id,
+        issuer: Text::copy_of(alloc, issuer)?,
+        key,
+    })
+}
+
+fn pool_from(alloc: Global, project: &str, pool: &str) -> Result<PoolName, ConfigError>
+    ensures { Reads (λ pool. pool) result (pool_of project.now pool.now) }
+{
+    match PoolName::of_parts(alloc, project, pool) {
+        Ok(pool) => Ok(pool),
+        Err(NameError::Form) => Err(ConfigError::Form),
+        Err(NameError::Memory) => Err(ConfigError::Memory),
+    }
+}
+
+fn provider_id(alloc: Global, text: &str) -> Result<ProviderId, ConfigError>
+    ensures { Reads (λ id. id) result (passing is_id text.now) }
+{
+    match ProviderId::read(alloc, text) {
+        Ok(id) => Ok(id),
+        Err(NameError::Form) => Err(ConfigError::Form),
+        Err(NameError::Memory) => Err(ConfigError::Memory),
+    }
+}
+
+fn member<'a>(json: &'a Value, name: &str) -> Result<&'a str, ConfigError>
+    ensures { Reads (λ text. text.now) result (text_member name.now (view json.now)) }
+{
+    match text_at(json, name) {
+        Some(text) => Ok(text),
+        None => Err(ConfigError::Form),
+    }
+}
+
+fn issuer_at(json: &Value) -> Result<&str, ConfigError>
+    ensures { Reads (λ text. text.now) result (option_and_then issuer_of (text_member (codes "issuer") (view json.now))) }
+{
+    let text = member(json, "issuer")?;
+    if has_size(text, 1, 256) {
+        Ok(text)
+    } else {
+        Err(ConfigError::Form)
+    }
+}
+
+fn secret_at<'a>(json: &'a Value, name: &str) -> Result<&'a str, ConfigError>
+    ensures { Reads (λ text. text.now) result (option_and_then secret_of (text_member name.now (view json.now))) }
+{
+    let text = member(json, name)?;
+    if is_secret(text) {
+        Ok(text)
+    } else {
+        Err(ConfigError::Form)
+    }
+}
+
+fn is_secret(text: &str) -> bool
+    ensures { result ≡ secret_form text.now }
+{
+    let fits = has_size(text, 16, 256);
+    let visible = is_visible_text(text);
+    fits && visible
+}
+
+fn key_at(alloc: Global, json: &Value) -> Result<Key, ConfigError>
+    ensures { Reads (λ key. key) result (option_and_then key_of (text_member (codes "key") (view json.now))) }
+{
+    decoded_key(alloc, member(json, "key")?)
+}
+
+// Base64url without padding (RFC 4648, section 5), read strictly.
+fn decoded_key(alloc: Global, text: &str) -> Result<Key, ConfigError>
+    ensures { Reads (λ key. key) result (key_of text.now) }
+{
+    match URL_SAFE_NO_PAD.decode(alloc, text.as_bytes()) {
+        Ok(key) => match Key::new(Bytes::new(key)) {
+            Some(key) => Ok(key),
+            None => Err(ConfigError::Form),
+        },
+        Err(DecodeAllocError::OutOfMemory) => Err(ConfigError::Memory),
+        Err(_) => Err(ConfigError::Form),
+    }
+}
