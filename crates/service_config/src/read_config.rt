@@ -1,9 +1,9 @@
-ghost use Rattle.std.specs.Prelude.{◌≡◌, IfOk, IsErrOf, codes, option_and_then};
+ghost use Rattle.std.specs.Prelude.{◌≡◌, true, IfOk, IsErrOf, codes, option_and_then};
 ghost use Rattle.serde_json.specs.View.{view};
 ghost use Rattle.json_text.specs.Document.{text_at as text_member};
 ghost use Rattle.service_config.specs.Configuration.{IsConfiguration, Reads, config_of, start_at, start_of, key_of, issuer_of, secret_of, is_secret as secret_form};
-ghost use Rattle.service_config.specs.Formed.{IsFormedConfig, IsFormedProvider, IsFormedStart};
-ghost use Rattle.iam_names.specs.PoolName.{pool_of};
+ghost use Rattle.service_config.specs.Formed.{IsFormedConfig, IsFormedIssuer, IsFormedProvider, IsFormedStart};
+ghost use Rattle.iam_names.specs.PoolName.{pool_of, is_pool_name};
 ghost use Rattle.iam_names.specs.Forms.{is_id};
 ghost use Rattle.json_text.specs.Forms.{passing};
 
@@ -84,7 +84,8 @@ fn provider_from(alloc: Global, json: &Value) -> Result<StartProvider, ConfigErr
 }
 
 fn pool_from(alloc: Global, project: &str, pool: &str) -> Result<PoolName, ConfigError>
-    ensures { Reads (λ pool. pool) result (pool_of project.now pool.now) }
+    ensures read { Reads (λ pool. pool) result (pool_of project.now pool.now) }
+    ensures form { IfOk result (λ pool. is_pool_name pool ≡ true) }
 {
     match PoolName::of_parts(alloc, project, pool) {
         Ok(pool) => Ok(pool),
@@ -94,7 +95,8 @@ fn pool_from(alloc: Global, project: &str, pool: &str) -> Result<PoolName, Confi
 }
 
 fn provider_id(alloc: Global, text: &str) -> Result<ProviderId, ConfigError>
-    ensures { Reads (λ id. id) result (passing is_id text.now) }
+    ensures read { Reads (λ id. id) result (passing is_id text.now) }
+    ensures form { IfOk result (λ id. is_id id ≡ true) }
 {
     match ProviderId::read(alloc, text) {
         Ok(id) => Ok(id),
@@ -113,7 +115,8 @@ fn member<'a>(json: &'a Value, name: &str) -> Result<&'a str, ConfigError>
 }
 
 fn issuer_at(json: &Value) -> Result<&str, ConfigError>
-    ensures { Reads (λ text. text.now) result (option_and_then issuer_of (text_member (codes "issuer") (view json.now))) }
+    ensures read { Reads (λ text. text.now) result (option_and_then issuer_of (text_member (codes "issuer") (view json.now))) }
+    ensures form { IfOk result (λ text. IsFormedIssuer text.now) }
 {
     let text = member(json, "issuer")?;
     if has_size(text, 1, 256) {
@@ -124,7 +127,8 @@ fn issuer_at(json: &Value) -> Result<&str, ConfigError>
 }
 
 fn secret_at<'a>(json: &'a Value, name: &str) -> Result<&'a str, ConfigError>
-    ensures { Reads (λ text. text.now) result (option_and_then secret_of (text_member name.now (view json.now))) }
+    ensures read { Reads (λ text. text.now) result (option_and_then secret_of (text_member name.now (view json.now))) }
+    ensures form { IfOk result (λ text. secret_form text.now ≡ true) }
 {
     let text = member(json, name)?;
     if is_secret(text) {
