@@ -1,5 +1,4 @@
 pub mod Clean
 pub mod Document
-pub mod Forms
-pub mod Reading
-pub mod Rules
+pub mod Members
+pub mod Reads

@@ -6,7 +6,7 @@ use Rattle.std.specs.List.{AllByRecursion, list_all}
 use Rattle.std.specs.Str.{bytes_eq}
 use Rattle.iam_names.specs.Audience.{audience_text}
 use Rattle.iam_names.specs.Forms.{is_scope_word}
-use Rattle.json_text.specs.Rules.{fails_if}
+use Rattle.base_types.specs.Rules.{fails_if}
 use Rattle.service_view.specs.View.{pool_enabled}
 use Rattle.links.specs.declared.config.StartProvider.{StartProvider}
 use Rattle.links.specs.declared.entry.Entry.{Entry}

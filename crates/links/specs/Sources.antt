@@ -2,7 +2,7 @@
 use Rattle.std.specs.Prelude.{ℕ, List, [], ◌∷◌, ◌++◌, length, codes, Bool, not, ◌||◌, Option, None, Some, option_and_then, nat_lt, Result, Ok, Err, if◌then◌else◌}
 use Rattle.std.specs.List.{list_any}
 use Rattle.std.specs.Str.{bytes_eq}
-use Rattle.json_text.specs.Rules.{fails_if, first_of}
+use Rattle.base_types.specs.Rules.{fails_if, first_of}
 use Rattle.hmac_jws.specs.Verified.{first_jws_fault, payload_of}
 use Rattle.hmac_jws.specs.declared.fault.JwsFault.{JwsFault}
 use Rattle.cel_values.specs.declared.value.Value.{Value, out-Value}

@@ -2,7 +2,7 @@
 use Rattle.std.specs.Prelude.{List, Option, Some, option_and_then, codes}
 use Rattle.serde_json.specs.Data.{Data}
 use Rattle.serde_json.specs.Find.{get, as_str}
-use Rattle.json_text.specs.Reading.{◌>>=◌}
+use Rattle.base_types.specs.Reading.{◌>>=◌}
 use Rattle.iam_names.specs.Forms.{is_role}
 use Rattle.iam_names.specs.Member.{member_of}
 use Rattle.iam_names.specs.declared.member.Member.{Member}

@@ -1,7 +1,7 @@
 ghost use Rattle.std.specs.Prelude.{◌≡◌, option_map, option_and_then, IfOk};
 ghost use Rattle.serde_json.specs.Find.{as_str};
 ghost use Rattle.serde_json.specs.View.{view, items_view};
-ghost use Rattle.json_text.specs.Forms.{passing};
+ghost use Rattle.base_types.specs.Forms.{passing};
 ghost use Rattle.sts_admin.specs.Members as members;
 
 use allow_policy::ScopeSet;

@@ -8,7 +8,7 @@ use Rattle.serde_json.specs.Data.{Data}
 use Rattle.serde_json.specs.Find.{get, as_object}
 use Rattle.json_text.specs.Clean.{HasUtf8}
 use Rattle.json_text.specs.Document.{document, text_at}
-use Rattle.json_text.specs.Forms.{has_size, passing}
+use Rattle.base_types.specs.Forms.{has_size, passing}
 use Rattle.json_text.proofs.FoundTexts.{get_utf8, text_at_utf8}
 use Rattle.json_text.proofs.ValueTexts.{read_document_utf8}
 use Rattle.cel_values.specs.declared.value.Value.{Value}

@@ -3,7 +3,7 @@ use Rattle.std.specs.Prelude.{ℕ, zero, suc, ◌^◌, List, [], ◌∷◌, Opti
 use Rattle.serde_json.specs.Data.{Data, null, boolean, number, string, array, object}
 use Rattle.serde_json.specs.Find.{get, as_number, as_object, as_u64}
 use Rattle.json_text.specs.Document.{document, text_at, item_texts}
-use Rattle.json_text.specs.Forms.{has_size, passing}
+use Rattle.base_types.specs.Forms.{has_size, passing}
 use Rattle.cel_values.specs.Values.{value_of}
 use Rattle.wif_claims.specs.declared.claims.Claims.{Claims}
 use Rattle.wif_claims.specs.declared.claims.ClaimFault.{ClaimFault}

@@ -3,8 +3,8 @@ ghost use Rattle.std.specs.List.{AllByRecursion};
 ghost use Rattle.serde_json.specs.View.{view};
 ghost use Rattle.wif_claims.specs.Payload.{date_of as date_member, optional_date as optional_date_member, audiences, actor_of, actors};
 
-use base_types::{Items, Text};
-use json_text::{has_size, text_at, texts_of_items};
+use base_types::{Items, Text, has_size};
+use json_text::{text_at, texts_of_items};
 use serde_json::Value;
 use std::alloc::{AllocError, Global};
 
