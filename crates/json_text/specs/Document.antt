@@ -5,7 +5,7 @@ use Rattle.serde_json.specs.Read.{read}
 use Rattle.serde_json.specs.Data.{Data, Items, string, array}
 use Rattle.serde_json.specs.Find.{get, as_number, as_u64, as_str, as_array}
 use Rattle.serde_json.specs.View.{items_of}
-use Rattle.json_text.specs.Members.{each}
+use Rattle.json_text.specs.Arrays.{each}
 
 -- the value that bytes are, or none
 abbrev pub document : List ℕ → Option Data

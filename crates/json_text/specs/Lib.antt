@@ -1,3 +1,4 @@
+pub mod Arrays
 pub mod Clean
 pub mod Document
 pub mod Members

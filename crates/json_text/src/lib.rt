@@ -11,7 +11,7 @@ mod tests;
 mod texts;
 
 pub use document::{DocumentFault, read_document};
-pub use each::{ReadFault, ReadsJson, list_at, read_each};
+pub use each::{ReadFault, ReadsJson, list_at, read_each, short_array, short_list, where_formed};
 pub use laws::compact_text_reads_back;
-pub use members::{date_of, put_text, short_array, switch, text_at, whole_number_at};
+pub use members::{date_of, put_text, switch, text_at, whole_number_at};
 pub use texts::{TextForm, texts_at, texts_of_items, texts_value};

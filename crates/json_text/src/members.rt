@@ -1,6 +1,6 @@
 ghost use Rattle.std.specs.Prelude.{◌≡◌, option_map, OnOk};
 ghost use Rattle.serde_json.specs.Data.{string, put};
-ghost use Rattle.serde_json.specs.View.{view, items_view, members_view};
+ghost use Rattle.serde_json.specs.View.{view, members_view};
 ghost use Rattle.json_text.specs.Document.{text_at as text_member, whole_number_at as whole_number_member};
 ghost use Rattle.json_text.specs.Members as members;
 
@@ -40,19 +40,6 @@ pub fn date_of(value: &Value) -> Option<u64>
     let seconds = value.as_u64()?;
     if seconds < DATE_LIMIT {
         Some(seconds)
-    } else {
-        None
-    }
-}
-
-/// The items of an array of at most so many.
-#[tactic(auto, using(crate::proofs::ShortArrays::count_view))]
-pub fn short_array(json: &Value, most: usize) -> Option<&[Value]>
-    ensures { option_map (λ items. items_view items.now) result ≡ members.short_array most (view json.now) }
-{
-    let items = json.as_array()?;
-    if items.len() <= most {
-        Some(items.as_slice())
     } else {
         None
     }

@@ -2,7 +2,7 @@ ghost use Rattle.std.specs.Prelude.{◌≡◌, IfOk};
 ghost use Rattle.serde_json.specs.View.{view, items_view};
 ghost use Rattle.json_text.specs.Document.{item_texts, texts_at as texts_member, texts_data};
 
-use crate::each::{ReadFault, ReadsJson, read_each};
+use crate::each::{ReadFault, ReadsJson, read_each, where_formed};
 use base_types::{Items, Text};
 use serde_json::Value;
 use std::alloc::{AllocError, Global};
@@ -30,11 +30,7 @@ impl ReadsJson for TextForm {
 pub fn texts_of_items(alloc: Global, items: &[Value]) -> Result<Option<Items<Text>>, AllocError>
     ensures { IfOk result (λ found. found ≡ item_texts (items_view items.now)) }
 {
-    match read_each::<TextForm>(alloc, items) {
-        Ok(texts) => Ok(Some(texts)),
-        Err(ReadFault::Form) => Ok(None),
-        Err(ReadFault::Memory) => Err(AllocError),
-    }
+    where_formed(read_each::<TextForm>(alloc, items))
 }
 
 /// The list of texts under a name.

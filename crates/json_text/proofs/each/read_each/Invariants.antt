@@ -1,6 +1,6 @@
 use Rattle.std.proofs.Common.{◌≡◌, ◌++◌, drop, option_map}
 use Rattle.serde_json.specs.View.{items_view}
-use Rattle.json_text.specs.Members.{each}
+use Rattle.json_text.specs.Arrays.{each}
 use Rattle.json_text.proofs.each.read_each.Given as goal
 
 abbrev pub invariant-loop-item : goal.invariant-loop-item
