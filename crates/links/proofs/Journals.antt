@@ -21,7 +21,8 @@ use Rattle.links.specs.Entries.{IsEntry, IsExchange, HasGoodPool}
 use Rattle.links.specs.Exact.{IsGoodLink, IsGoodPool, IsGoodSource}
 use Rattle.links.specs.Forms.{IsFormedSource}
 use Rattle.links.specs.Payload.{link_chain}
-use Rattle.links.specs.Sources.{◌>>=◌, passed, source_of, provider_name}
+use Rattle.base_types.specs.Steps.{◌>>=◌}
+use Rattle.links.specs.Sources.{passed, source_of, provider_name}
 use Rattle.links.specs.State.{Content, named, source_at, federated_link, link_of, with_link, after, state_after, chain}
 use Rattle.links.proofs.Places.{chains_from, chains_of-from, chain_found-all}
 use Rattle.links.proofs.Replays.{good-pushed}

@@ -14,7 +14,8 @@ use Rattle.links.specs.declared.prepared.Prepared.{Prepared}
 use Rattle.links.specs.Chain.{Chain}
 use Rattle.links.specs.Facts.{facts_of, exp_of}
 use Rattle.links.specs.Payload.{payload_text}
-use Rattle.links.specs.Sources.{◌>>=◌, passed}
+use Rattle.base_types.specs.Steps.{◌>>=◌}
+use Rattle.links.specs.Sources.{passed}
 use Rattle.links.specs.State.{Content, link_of, ready_of, made, source_at, federated_link, token_text, after}
 use Rattle.allow_policy.specs.Granting.{knows_scope}
 use Rattle.allow_policy.specs.declared.put_fault.PutFault.{PutFault}

@@ -13,7 +13,7 @@ use Rattle.serde_json.specs.Data.{Data}
 use Rattle.serde_json.specs.Find.{as_object}
 use Rattle.json_text.specs.Document.{document, text_at}
 use Rattle.iam_names.specs.Forms.{is_permission, is_resource}
-use Rattle.sts_admin.specs.Members.{name_at}
+use Rattle.json_text.specs.Members.{name_at}
 use Rattle.grant_gate.specs.Decision.{check_decision}
 use Rattle.base_types.specs.Forms.{passing}
 use Rattle.service_view.specs.declared.command.Command.{Command}

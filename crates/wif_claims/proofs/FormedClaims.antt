@@ -14,7 +14,8 @@ use Rattle.json_text.proofs.ValueTexts.{read_document_utf8}
 use Rattle.cel_values.specs.declared.value.Value.{Value}
 use Rattle.cel_values.specs.Values.{value_of}
 use Rattle.wif_claims.specs.Forms.{HasForms}
-use Rattle.wif_claims.specs.Payload.{date_of, optional_date, audiences, actor_of, actors, claims_of_data, claims_of}
+use Rattle.json_text.specs.Members.{date_of}
+use Rattle.wif_claims.specs.Payload.{optional_date, audiences, actor_of, actors, claims_of_data, claims_of}
 use Rattle.wif_claims.specs.declared.claims.Claims.{Claims}
 use Rattle.wif_claims.specs.declared.claims.ClaimFault.TheVariants.{Json, NotObject, Iss, Aud, Exp, Nbf, Iat, MayAct}
 use Rattle.wif_claims.proofs.HeldForms.{date-below, after-needed, free}
