@@ -4,8 +4,9 @@ ghost use Rattle.serde_json.specs.View.{members_view};
 ghost use Rattle.access_token.specs.Active.{active_data, active_text};
 
 use crate::Facts;
-use crate::payload::{last_scope, names_value, put_text};
+use crate::payload::{last_scope, names_value};
 use base_types::Text;
+use json_text::put_text;
 use serde_json::{Map, Value};
 use std::alloc::{AllocError, Global};
 

@@ -3,7 +3,7 @@ ghost use Rattle.std.specs.Cmp.Lexicographic.{slice_cmp};
 ghost use Rattle.std.specs.Ordering.{nat_cmp};
 ghost use Rattle.std.specs.String.{string_bytes};
 ghost use Rattle.std.specs.declared.cmp.Ordering.TheVariants.{Less};
-ghost use Rattle.serde_json.specs.Data.{string, array, object, put, member, no_members, no_items};
+ghost use Rattle.serde_json.specs.Data.{string, array, object, member, no_members, no_items};
 ghost use Rattle.serde_json.specs.View.{view, members_view};
 ghost use Rattle.iam_names.specs.PoolName.{pool_text};
 ghost use Rattle.iam_names.specs.declared.who.Who.{Who as Whom};
@@ -13,6 +13,7 @@ ghost use Rattle.access_token.specs.Payload.{items, optional, texts, nested, att
 use crate::Facts;
 use base_types::{Items, Text, TextMap};
 use iam_names::{Account, Identity, PoolName, ScopeWord, Who};
+use json_text::put_text;
 use serde_json::{Map, Value};
 use std::alloc::{AllocError, Global};
 
@@ -30,20 +31,6 @@ pub fn words_text(alloc: Global, words: &[ScopeWord]) -> Result<Text, AllocError
         text.push_str(word.as_str())?;
     }
     Ok(Text::new(text))
-}
-
-/// Puts a text under a name. The name is written as it stands.
-pub fn put_text(
-    alloc: Global,
-    members: &mut Map<String, Value>,
-    name: &str,
-    text: &str,
-) -> Result<(), AllocError>
-    ensures { OnOk result (members_view members.new.entries
-        ≡ put name.now (string text.now) (members_view members.old.entries)) }
-{
-    let value = Value::try_from_str(alloc, text)?;
-    serde_json::put(members, alloc, name, value)
 }
 
 fn name_value(

@@ -1,4 +1,5 @@
 use super::*;
+use base_types::{has_size, is_visible_text};
 use std::alloc::Global;
 use std::test::Fail;
 

@@ -1,7 +1,7 @@
 -- The steps of an exchange, as the code takes them.
 use Rattle.std.specs.Prelude.{◌≡◌, ℕ, ⊤, List, length, not, nat_lt, Option, None, Some, Result, Ok, Err, if◌then◌else◌}
 use Rattle.std.specs.List.{list_all}
-use Rattle.json_text.specs.Rules.{fails_if}
+use Rattle.base_types.specs.Rules.{fails_if}
 use Rattle.hmac_jws.specs.Compact.{compact}
 use Rattle.access_token.specs.declared.facts.Facts.{Facts}
 use Rattle.access_token.specs.Payload.{payload_text}
@@ -17,7 +17,8 @@ use Rattle.links.specs.declared.source.Source.{Source}
 use Rattle.links.specs.Chain.{Chain, Root}
 use Rattle.links.specs.Licence.{knows_word}
 use Rattle.links.specs.Recorded.{recorded}
-use Rattle.links.specs.Sources.{◌>>=◌, passed}
+use Rattle.base_types.specs.Steps.{◌>>=◌}
+use Rattle.links.specs.Sources.{passed}
 use Rattle.links.specs.State.{Content, source_at}
 
 -- a step gives what its definition gives, or runs out of memory

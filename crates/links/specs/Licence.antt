@@ -1,7 +1,7 @@
 -- Which entries a state licenses.
 use Rattle.std.specs.Prelude.{◌≡◌, ℕ, Bool, true, not, List, [], ◌∷◌, length, Option, None, Some, option_map, nat_lt, Result, Ok, Err, ⊤}
 use Rattle.std.specs.List.{list_all}
-use Rattle.json_text.specs.Rules.{fails_if, first_of}
+use Rattle.base_types.specs.Rules.{fails_if, first_of}
 use Rattle.links.specs.declared.entry.Entry.{Entry}
 use Rattle.links.specs.declared.entry.Entry.TheVariants as entry
 use Rattle.links.specs.declared.entry.Exchange.{Exchange}

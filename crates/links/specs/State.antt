@@ -2,7 +2,7 @@
 use Rattle.std.specs.Prelude.{◌≡◌, ℕ, ◌+◌, List, [], ◌∷◌, ◌++◌, length, Option, None, Some, option_map, not, Result, Ok, Err, if◌then◌else◌}
 use Rattle.std.specs.Result.{result_ok}
 use Rattle.std.specs.Str.{bytes_eq}
-use Rattle.json_text.specs.Rules.{fails_if}
+use Rattle.base_types.specs.Rules.{fails_if}
 use Rattle.hmac_jws.specs.Compact.{compact}
 use Rattle.iam_names.specs.declared.audience.Audience.{Audience}
 use Rattle.iam_names.specs.declared.pool_name.PoolName.{PoolName}
@@ -21,7 +21,8 @@ use Rattle.links.specs.declared.fault.RuleCode.TheVariants.{E14, E15}
 use Rattle.links.specs.declared.source.Source.{Source}
 use Rattle.links.specs.Chain.{Kind, Link, Chain, chains_of, chain_at, next_chain}
 use Rattle.links.specs.Facts.{facts_of}
-use Rattle.links.specs.Sources.{◌>>=◌, passed, source_of}
+use Rattle.base_types.specs.Steps.{◌>>=◌}
+use Rattle.links.specs.Sources.{passed, source_of}
 
 -- The issuer and the key of the tokens that are issued, the provider that is there from the start, what stands under the
 -- names that commands put, how many entries there were, and the links that they recorded.

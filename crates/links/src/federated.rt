@@ -1,7 +1,7 @@
 ghost use Rattle.std.specs.Prelude.{◌≡◌, ◌≤◌, ◌∷◌, [], ℕ, List, IfOk, Ok, not};
 ghost use Rattle.std.specs.List.{list_all};
 ghost use Rattle.std.specs.Str.{bytes_eq};
-ghost use Rattle.json_text.specs.Rules.{fails_if};
+ghost use Rattle.base_types.specs.Rules.{fails_if};
 ghost use Rattle.iam_names.specs.Audience.{audience_text};
 ghost use Rattle.access_token.specs.Facts.{name_of};
 ghost use Rattle.service_config.specs.Configuration.{provider_name};
