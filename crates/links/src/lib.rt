@@ -4,8 +4,6 @@
 mod active;
 mod authority;
 mod config;
-#[cfg(test)]
-mod config_tests;
 mod entry;
 mod fault;
 mod issued;
