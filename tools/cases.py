@@ -356,3 +356,13 @@ introspect('active', access(), AT + 100)
 exchange('issued', SORTED, AT + 100)
 introspect('active', access(jti='18', iat=AT + 100), AT + 100)
 check('allowed', access(jti='18', iat=AT + 100))
+
+# A thousand roles and no more, and a thousand pools with that of the start; a name that is there is put again.
+for number in range(1, 1000):
+    admin(f'entry {34 + number}', {'kind': 'role', 'role': f'roles/r{number}', 'permissions': []}, at=0)
+admin('A6', {'kind': 'role', 'role': 'roles/r1000', 'permissions': []})
+admin('entry 1034', {'kind': 'role', 'role': 'roles/r999', 'permissions': []})
+for number in range(2, 1000):
+    admin(f'entry {1033 + number}', {'kind': 'pool', 'project': '7', 'pool': f'pool-{number}'}, at=0)
+admin('A6', {'kind': 'pool', 'project': '7', 'pool': 'pool-1000'})
+admin('entry 2033', {'kind': 'pool', 'project': '7', 'pool': 'pool-999'})
