@@ -5,7 +5,7 @@ use Rattle.std.proofs.lemmas.Option.{cond_some}
 use Rattle.serde_json.specs.Data.{Data}
 use Rattle.serde_json.specs.Find.{get}
 use Rattle.json_text.specs.Document.{text_at}
-use Rattle.json_text.specs.Forms.{passing}
+use Rattle.base_types.specs.Forms.{passing}
 use Rattle.links.specs.Reading.{names_in}
 use Rattle.grant_gate.proofs.Eachs.{formed-more, unformed}
 

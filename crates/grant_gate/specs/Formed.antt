@@ -5,8 +5,8 @@ use Rattle.std.specs.Str.Parse.{digits_value}
 use Rattle.serde_json.specs.Data.{Data, Members}
 use Rattle.serde_json.specs.Find.{get, as_str, as_object}
 use Rattle.json_text.specs.Document.{text_at, texts_at, whole_number_at}
-use Rattle.json_text.specs.Forms.{passing, has_size}
-use Rattle.json_text.specs.Reading.{◌>>=◌}
+use Rattle.base_types.specs.Forms.{passing, has_size}
+use Rattle.base_types.specs.Reading.{◌>>=◌}
 use Rattle.iam_names.specs.Forms.{is_account}
 use Rattle.iam_names.specs.declared.pool_name.PoolName.{PoolName}
 use Rattle.iam_names.specs.declared.who.Who.{Who}

@@ -1,6 +1,6 @@
 -- What a reader of payloads answers.
 use Rattle.std.specs.Prelude.{◌≡◌, Option, None, Result, ⊤}
-use Rattle.json_text.specs.Reading.{ReadsOr}
+use Rattle.base_types.specs.Reading.{ReadsOr}
 use Rattle.grant_gate.specs.declared.fault.GateFault.{GateFault}
 use Rattle.grant_gate.specs.declared.fault.GateFault.TheVariants.{Shape, Mac, Claims, Memory}
 

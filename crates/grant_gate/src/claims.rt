@@ -1,7 +1,7 @@
 ghost use Rattle.std.specs.Prelude.{◌≡◌};
 ghost use Rattle.serde_json.specs.View.{view};
 ghost use Rattle.iam_names.specs.Reads.{RefusesName};
-ghost use Rattle.json_text.specs.Reading.{ReadsOr};
+ghost use Rattle.base_types.specs.Reading.{ReadsOr};
 ghost use Rattle.links.specs.Told.{bearer_who, told_facts};
 ghost use Rattle.grant_gate.specs.Facts.{claims_facts};
 ghost use Rattle.grant_gate.specs.Formed.{formed_in};

@@ -8,7 +8,7 @@ use Rattle.std.proofs.lemmas.List.Sums.{AllPass-from_list_all}
 use Rattle.std.proofs.lemmas.Fmt.{decimal_is_IsNumeral}
 use Rattle.std.proofs.lemmas.List.Splits.{slice_split_none, slice_split_at}
 use Rattle.serde_json.specs.Data.{Data, number, unsigned, string, object, no_members, member}
-use Rattle.json_text.specs.Forms.{has_size}
+use Rattle.base_types.specs.Forms.{has_size}
 use Rattle.json_text.specs.Document.{item_texts}
 use Rattle.iam_names.specs.Forms.{is_digit, begins_with, is_plain_byte, is_project, is_id, is_scope_word}
 use Rattle.iam_names.specs.PoolName.{pool_text}

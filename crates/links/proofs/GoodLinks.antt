@@ -4,7 +4,7 @@ use Rattle.std.specs.List.{AllByRecursion, list_all}
 use Rattle.std.specs.Str.{IsUtf8}
 use Rattle.std.proofs.lemmas.Bool.Decides.{nat_tests}
 use Rattle.json.proofs.Printed.Utf8.{are_ascii, IsUtf8-are_ascii}
-use Rattle.json_text.specs.Forms.{has_size}
+use Rattle.base_types.specs.Forms.{has_size}
 use Rattle.iam_names.specs.Forms.{is_digit, begins_with, is_id_byte, is_plain_byte, is_project, is_id, is_scope_word}
 use Rattle.iam_names.specs.declared.pool_name.PoolName.{PoolName}
 use Rattle.links.specs.declared.link.Link.{Link}

@@ -6,7 +6,7 @@ use Rattle.std.specs.List.{AllByRecursion, list_all}
 use Rattle.std.specs.Str.{bytes_eq}
 use Rattle.iam_names.specs.Audience.{audience_text}
 use Rattle.iam_names.specs.Forms.{is_scope_word}
-use Rattle.json_text.specs.Rules.{fails_if}
+use Rattle.base_types.specs.Rules.{fails_if}
 use Rattle.service_view.specs.View.{pool_enabled}
 use Rattle.links.specs.declared.config.StartProvider.{StartProvider}
 use Rattle.links.specs.declared.entry.Entry.{Entry}
@@ -21,7 +21,8 @@ use Rattle.links.specs.Entries.{IsEntry, IsExchange, HasGoodPool}
 use Rattle.links.specs.Exact.{IsGoodLink, IsGoodPool, IsGoodSource}
 use Rattle.links.specs.Forms.{IsFormedSource}
 use Rattle.links.specs.Payload.{link_chain}
-use Rattle.links.specs.Sources.{◌>>=◌, passed, source_of, provider_name}
+use Rattle.base_types.specs.Steps.{◌>>=◌}
+use Rattle.links.specs.Sources.{passed, source_of, provider_name}
 use Rattle.links.specs.State.{Content, named, source_at, federated_link, link_of, with_link, after, state_after, chain}
 use Rattle.links.proofs.Places.{chains_from, chains_of-from, chain_found-all}
 use Rattle.links.proofs.Replays.{good-pushed}

@@ -2,7 +2,7 @@
 use Rattle.std.proofs.Common.{◌≡◌, ℕ, List, [], ◌∷◌, length, Bool, true, false, not, refl, sym, ◌∙◌, ap, subst}
 use Rattle.std.specs.Prelude.{Option, None, Some, Result, Ok, Err, option_map, nat_lt, if◌then◌else◌}
 use Rattle.std.specs.List.{list_all}
-use Rattle.json_text.specs.Rules.{fails_if, first_of}
+use Rattle.base_types.specs.Rules.{fails_if, first_of}
 use Rattle.links.specs.declared.entry.Entry.{Entry}
 use Rattle.links.specs.declared.entry.Entry.TheVariants as entry
 use Rattle.links.specs.declared.entry.Exchange.{Exchange}
@@ -22,7 +22,8 @@ use Rattle.links.specs.Facts.{exp_of}
 use Rattle.links.specs.Payload.{link_chain, root_of}
 use Rattle.links.specs.Made.{made_of, finish, sized, next_token, next_payload, readied}
 use Rattle.links.specs.declared.recording.Made.{Made}
-use Rattle.links.specs.Sources.{passed, ◌>>=◌}
+use Rattle.base_types.specs.Steps.{◌>>=◌}
+use Rattle.links.specs.Sources.{passed}
 use Rattle.links.specs.State.{Content, link_of, made, made_by, source_at, federated_link, token_text}
 use Rattle.links.specs.Licence.{first_unlicensed, licensed_link, knows_word, is_long, rule_of, prepared_of, Licensed, Prepares}
 use Rattle.links.specs.Reads.{Gives}

@@ -7,7 +7,7 @@ use Rattle.std.proofs.lemmas.Bool.Decides.{Decides-ltb}
 use Rattle.std.proofs.lemmas.Option.{option_and_then_some, cond_some}
 use Rattle.serde_json.specs.Data.{Data}
 use Rattle.json_text.specs.Document.{document}
-use Rattle.json_text.specs.Forms.{passing}
+use Rattle.base_types.specs.Forms.{passing}
 use Rattle.links.specs.declared.link.Link.{Link}
 use Rattle.links.specs.declared.link.LinkKind.{LinkKind}
 use Rattle.links.specs.declared.link.LinkKind.TheVariants.{Federated}

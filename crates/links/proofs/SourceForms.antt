@@ -13,7 +13,8 @@ use Rattle.links.specs.declared.fault.ApplyFault.{ApplyFault}
 use Rattle.links.specs.Reads.{Gives}
 use Rattle.links.specs.Exact.{IsGoodPool, IsGoodSource}
 use Rattle.links.specs.Forms.{IsFormedSource}
-use Rattle.links.specs.Sources.{◌>>=◌, opened, claimed_by, passed, first_admission_fault, subject_claim, subject_by, source_by, source_of_claims, source_of}
+use Rattle.base_types.specs.Steps.{◌>>=◌}
+use Rattle.links.specs.Sources.{opened, claimed_by, passed, first_admission_fault, subject_claim, subject_by, source_by, source_of_claims, source_of}
 use Rattle.links.proofs.Subjects.{IsSubject, claims_subject}
 
 abbrev IsFormed : Source → Type 0

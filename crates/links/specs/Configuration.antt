@@ -6,8 +6,8 @@ use Rattle.base64.specs.GeneralPurpose.{decode_of}
 use Rattle.serde_json.specs.Data.{Data}
 use Rattle.serde_json.specs.Find.{get}
 use Rattle.json_text.specs.Document.{document, text_at}
-use Rattle.json_text.specs.Forms.{has_size, is_visible_text, passing}
-use Rattle.json_text.specs.Reading.{◌>>=◌, ReadsOr}
+use Rattle.base_types.specs.Forms.{has_size, is_visible_text, passing}
+use Rattle.base_types.specs.Reading.{◌>>=◌, ReadsOr}
 use Rattle.iam_names.specs.PoolName.{pool_of}
 use Rattle.iam_names.specs.Forms.{is_id}
 use Rattle.links.specs.declared.config.Config.{Config}

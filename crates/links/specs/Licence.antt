@@ -1,7 +1,7 @@
 -- Which entries a state licenses.
 use Rattle.std.specs.Prelude.{◌≡◌, ℕ, Bool, true, not, List, [], ◌∷◌, length, Option, None, Some, option_map, nat_lt, Result, Ok, Err, ⊤}
 use Rattle.std.specs.List.{list_all}
-use Rattle.json_text.specs.Rules.{fails_if, first_of}
+use Rattle.base_types.specs.Rules.{fails_if, first_of}
 use Rattle.links.specs.declared.entry.Entry.{Entry}
 use Rattle.links.specs.declared.entry.Entry.TheVariants as entry
 use Rattle.links.specs.declared.entry.Exchange.{Exchange}
@@ -14,7 +14,8 @@ use Rattle.links.specs.declared.prepared.Prepared.{Prepared}
 use Rattle.links.specs.Chain.{Chain}
 use Rattle.links.specs.Facts.{facts_of, exp_of}
 use Rattle.links.specs.Payload.{payload_text}
-use Rattle.links.specs.Sources.{◌>>=◌, passed}
+use Rattle.base_types.specs.Steps.{◌>>=◌}
+use Rattle.links.specs.Sources.{passed}
 use Rattle.links.specs.State.{Content, link_of, ready_of, made, source_at, federated_link, token_text, after}
 use Rattle.allow_policy.specs.Granting.{knows_scope}
 use Rattle.allow_policy.specs.declared.put_fault.PutFault.{PutFault}

@@ -13,7 +13,7 @@ use Rattle.service_view.specs.declared.command.Command.{Command}
 use Rattle.service_view.specs.declared.ready_command.Ready.{Ready}
 use Rattle.service_view.specs.Puts.{made_ready}
 use Rattle.links.specs.Payload.{payload_text, link_chain}
-use Rattle.links.specs.Sources.{◌>>=◌}
+use Rattle.base_types.specs.Steps.{◌>>=◌}
 use Rattle.links.specs.State.{Content}
 
 -- a token that isn't too long

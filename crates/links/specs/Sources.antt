@@ -2,7 +2,8 @@
 use Rattle.std.specs.Prelude.{ℕ, List, [], ◌∷◌, ◌++◌, length, codes, Bool, not, ◌||◌, Option, None, Some, option_and_then, nat_lt, Result, Ok, Err, if◌then◌else◌}
 use Rattle.std.specs.List.{list_any}
 use Rattle.std.specs.Str.{bytes_eq}
-use Rattle.json_text.specs.Rules.{fails_if, first_of}
+use Rattle.base_types.specs.Rules.{fails_if, first_of}
+use Rattle.base_types.specs.Steps.{◌>>=◌}
 use Rattle.hmac_jws.specs.Verified.{first_jws_fault, payload_of}
 use Rattle.hmac_jws.specs.declared.fault.JwsFault.{JwsFault}
 use Rattle.cel_values.specs.declared.value.Value.{Value, out-Value}
@@ -21,12 +22,6 @@ use Rattle.links.specs.declared.fault.MapFault.TheVariants.{Issuer, Audience as 
 use Rattle.links.specs.declared.fault.RuleCode.{RuleCode}
 use Rattle.links.specs.declared.fault.RuleCode.TheVariants.{E16, E17, E18, E19}
 use Rattle.links.specs.declared.link.Source.{Source}
-
--- what a step gives, or the rule that it fails
-infixl 10 ◌>>=◌
-abbrev pub ◌>>=◌ : {X Y : Type 0} → Result X RuleCode → (X → Result Y RuleCode) → Result Y RuleCode
-(Ok x) >>= next = next x
-(Err rule) >>= next = Err rule
 
 -- the provider's full name
 abbrev pub provider_name : StartProvider → Audience

@@ -17,8 +17,9 @@ use Rattle.links.specs.declared.link.Source.{Source}
 use Rattle.links.specs.Chain.{Chain, chains_of, chain_at, next_chain}
 use Rattle.links.specs.Facts.{facts_of}
 use Rattle.links.specs.Payload.{payload_text}
-use Rattle.links.specs.Sources.{◌>>=◌, passed, source_of, provider_name}
-use Rattle.json_text.specs.Rules.{fails_if}
+use Rattle.base_types.specs.Steps.{◌>>=◌}
+use Rattle.links.specs.Sources.{passed, source_of, provider_name}
+use Rattle.base_types.specs.Rules.{fails_if}
 use Rattle.iam_names.specs.declared.pool_name.PoolName.{PoolName}
 use Rattle.service_view.specs.declared.ready_command.Ready.{Ready}
 use Rattle.service_view.specs.Puts.{command_of, made_ready}

@@ -7,8 +7,9 @@ ghost use Rattle.links.specs.Facts.{facts_of};
 ghost use Rattle.links.specs.Payload.{link_chain};
 
 use crate::link::{Link, LinkKind, Source};
-use crate::payload::{put_text, subject_name, words_text};
+use crate::payload::{subject_name, words_text};
 use base_types::Text;
+use json_text::put_text;
 use serde_json::{Map, Value};
 use std::alloc::{AllocError, Global};
 

@@ -31,7 +31,7 @@ pub use key::Key;
 pub use laws::{good_link_has_exact_facts, payload_says_its_facts, payload_tells_its_number};
 pub use link::{Link, LinkKind, Source};
 pub use numbered::{exp_of, live, payload_of, words_of};
-pub use payload::{put_text, words_text, write_payload, write_told};
+pub use payload::{words_text, write_payload, write_told};
 pub use prepared::Prepared;
 pub use read_config::read_service_config;
 pub use recording::{all_permissions, apply, commit, prepare};

@@ -15,6 +15,7 @@ use crate::link::{Link, Source};
 use crate::told::{Bearer, Told, told_of};
 use base_types::{Items, Text, TextMap};
 use iam_names::{Account, Identity, PoolName, ScopeWord};
+use json_text::put_text;
 use serde_json::{Map, Value};
 use std::alloc::{AllocError, Global};
 
@@ -32,20 +33,6 @@ pub fn words_text(alloc: Global, words: &[ScopeWord]) -> Result<Text, AllocError
         text.push_str(word.as_str())?;
     }
     Ok(Text::new(text))
-}
-
-/// Puts a text under a name. The name is written as it stands.
-pub fn put_text(
-    alloc: Global,
-    members: &mut Map<String, Value>,
-    name: &str,
-    text: &str,
-) -> Result<(), AllocError>
-    ensures { OnOk result (members_view members.new.entries
-        ≡ put name.now (string text.now) (members_view members.old.entries)) }
-{
-    let value = Value::try_from_str(alloc, text)?;
-    serde_json::put(members, alloc, name, value)
 }
 
 fn name_value(

@@ -4,14 +4,14 @@ ghost use Rattle.json_text.specs.Document.{text_at as text_member};
 ghost use Rattle.links.specs.Configuration.{IsConfiguration, Reads, config_of, start_at, start_of, key_of, issuer_of, secret_of, is_secret as secret_form};
 ghost use Rattle.iam_names.specs.PoolName.{pool_of};
 ghost use Rattle.iam_names.specs.Forms.{is_id};
-ghost use Rattle.json_text.specs.Forms.{passing};
+ghost use Rattle.base_types.specs.Forms.{passing};
 
 use crate::{Config, ConfigError, Key, StartProvider};
-use base_types::{Bytes, Text};
+use base_types::{Bytes, Text, has_size, is_visible_text};
 use base64::DecodeAllocError;
 use base64::engine::general_purpose::URL_SAFE_NO_PAD;
 use iam_names::{NameError, PoolName, ProviderId};
-use json_text::{DocumentFault, has_size, is_visible_text, read_document, text_at};
+use json_text::{DocumentFault, read_document, text_at};
 use serde_json::Value;
 use std::alloc::Global;
 

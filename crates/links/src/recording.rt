@@ -9,7 +9,7 @@ ghost use Rattle.links.specs.Entries.{IsEntry, IsExchange};
 ghost use Rattle.links.specs.declared.entry.Entry.TheVariants as entries;
 ghost use Rattle.hmac_jws.specs.Compact.{compact};
 ghost use Rattle.std.specs.Str.{bytes_eq};
-ghost use Rattle.json_text.specs.Rules.{fails_if};
+ghost use Rattle.base_types.specs.Rules.{fails_if};
 ghost use Rattle.iam_names.specs.Audience.{audience_text};
 ghost use Rattle.links.specs.declared.fault.RuleCode.TheVariants.{E11, E15};
 ghost use Rattle.links.specs.Made.{made_of, next_payload, readied, sized as sized_token};

@@ -1,7 +1,7 @@
 -- The machine: what the service replies to a request, and which entry it adds to its journal.
 use Rattle.std.specs.Prelude.{ℕ, List, [], ◌∷◌, ◌++◌, length, Bool, false, not, Option, None, Some, option_and_then, is_some, codes, Result, Ok, Err, if◌then◌else◌}
 use Rattle.std.specs.Str.{bytes_eq}
-use Rattle.json_text.specs.Rules.{fails_if, first_failing}
+use Rattle.base_types.specs.Rules.{fails_if, first_failing}
 use Rattle.wif_base.specs.declared.route.Route.{Route}
 use Rattle.wif_base.specs.declared.route.Route.TheVariants.{Token, Generate, Introspect, Check, Admin}
 use Rattle.wif_base.specs.declared.request.Request.{Request}
@@ -13,9 +13,9 @@ use Rattle.serde_json.specs.Data.{Data}
 use Rattle.serde_json.specs.Find.{as_object}
 use Rattle.json_text.specs.Document.{document, text_at}
 use Rattle.iam_names.specs.Forms.{is_permission, is_resource}
-use Rattle.sts_admin.specs.Members.{name_at}
+use Rattle.json_text.specs.Members.{name_at}
 use Rattle.grant_gate.specs.Decision.{check_decision}
-use Rattle.json_text.specs.Forms.{passing}
+use Rattle.base_types.specs.Forms.{passing}
 use Rattle.service_view.specs.declared.command.Command.{Command}
 use Rattle.sts_admin.specs.declared.command.CommandFault.{CommandFault}
 use Rattle.sts_admin.specs.Commands.{command_of}

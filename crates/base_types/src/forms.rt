@@ -1,5 +1,5 @@
 ghost use Rattle.std.specs.Prelude.{◌≡◌};
-ghost use Rattle.json_text.specs.Forms.{has_size as size_is, is_visible_text as all_visible};
+ghost use Rattle.base_types.specs.Forms.{has_size as size_is, is_visible_text as all_visible};
 
 /// Whether a text has from `low` to `high` bytes.
 pub fn has_size(text: &str, low: usize, high: usize) -> bool

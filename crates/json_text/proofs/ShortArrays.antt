@@ -2,7 +2,7 @@
 use Rattle.std.proofs.Common.{◌≡◌, List, [], ◌∷◌, length, refl, ap, suc}
 use Rattle.serde_json.specs.View.{items_view}
 use Rattle.serde_json.specs.declared.value.Value.{Value}
-use Rattle.sts_admin.specs.Members.{count}
+use Rattle.json_text.specs.Arrays.{count}
 
 pub count_view : (values : List Value) → count (items_view values) ≡ length values
 count_view [] = refl
