@@ -6,8 +6,6 @@ mod document;
 mod each;
 mod laws;
 mod members;
-#[cfg(test)]
-mod tests;
 mod texts;
 
 pub use document::{DocumentFault, read_document};
