@@ -2,7 +2,7 @@ use crate::escapes::escaped;
 use crate::inputs::Inputs;
 use allow_policy::ScopeSet;
 use json_text::read_document;
-use links::{Config, ConfigError, read_service_config};
+use service_config::{Config, ConfigError, read_service_config};
 use service_view::Command;
 use std::alloc::{AllocError, Global};
 use sts_admin::{CommandFault, read_command};

@@ -2,9 +2,9 @@ ghost use Rattle.std.specs.Prelude.{◌≡◌, ◌≤◌, IfOk, OnOk, OnErr, Lis
 ghost use Rattle.service_config.specs.declared.config.Config.{Config as Configuration};
 ghost use Rattle.service_config.specs.Formed.{IsFormedConfig};
 ghost use Rattle.links.specs.declared.entry.Entry.{Entry};
-ghost use Rattle.links.specs.State.{content_of, start_of};
+ghost use Rattle.links.specs.State.{content_of};
 ghost use Rattle.sts_core.specs.Machine.{behind, exchange as exchange_of, administration, checking, introspection, step, with_entry};
-ghost use Rattle.sts_core.specs.State.{Stands};
+ghost use Rattle.sts_core.specs.State.{IsSetUp, Stands};
 
 use crate::administration::administer;
 use crate::checking::check;
@@ -61,9 +61,10 @@ impl<D: Disk> Sts<D> {
         }
     }
 
-    /// The service of what a configuration set up. It takes no memory.
+    /// The service of what a configuration set up, with an empty journal. It takes no memory.
     pub fn resume(disk: D, setup: Setup) -> Self
-        ensures { result ≡ record { disk = disk; admin = setup.admin; gate = setup.gate; state = setup.state } }
+        ensures stands { (config : Configuration) → IsSetUp setup config → Stands result config [] }
+        ensures disk { result.disk ≡ disk }
     {
         Sts {
             disk,
@@ -166,12 +167,16 @@ pub struct Setup {
 /// Sets up a configuration, before a disk is looked at.
 pub fn setup(alloc: Global, config: &Config) -> Result<Setup, AllocError>
     requires formed { IsFormedConfig config.now }
-    ensures admin { IfOk result (λ setup. setup.admin ≡ config.now.admin) }
-    ensures gate { IfOk result (λ setup. setup.gate ≡ config.now.gate) }
-    ensures state { IfOk result (λ setup. setup.state.content ≡ start_of config.now) }
+    ensures { IfOk result (λ setup. IsSetUp setup config.now) }
 {
     let admin = config.admin.copy(alloc)?;
     let gate = config.gate.copy(alloc)?;
-    let state = start(alloc, config)?;
-    Ok(Setup { admin, gate, state })
+    match start(alloc, config) {
+        Ok(state) => Ok(Setup { admin, gate, state }),
+        Err(AllocError) => {
+            drop(admin);
+            drop(gate);
+            Err(AllocError)
+        }
+    }
 }
