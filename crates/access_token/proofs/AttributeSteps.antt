@@ -1,10 +1,10 @@
 -- Attributes that are read in order.
-use Rattle.std.proofs.Common.{◌≡◌, ℕ, List, [], ◌∷◌, ◌++◌, map, Option, None, Some, option_map, option_and_then, refl, sym, ap, ◌∙◌, append_assoc, Greater, nat_cmp, String}
+use Rattle.std.proofs.Common.{◌≡◌, ℕ, List, [], ◌∷◌, ◌++◌, map, Option, None, Some, option_map, refl, sym, ap, ◌∙◌, append_assoc, Greater, nat_cmp, String}
 use Rattle.std.specs.String.{string_bytes, string_cmp}
 use Rattle.std.specs.declared.alloc.Global.{Global}
 use Rattle.std.specs.declared.cmp.Ordering.TheVariants.{Less}
 use Rattle.std.specs.Cmp.Lexicographic.{slice_cmp}
-use Rattle.std.specs.List.{AllByRecursion, list_all}
+use Rattle.std.specs.List.{AllByRecursion}
 use Rattle.std.specs.List.Sorted.{IsStrictlySortedBy}
 use Rattle.std.specs.Ordering.{ordering_reverse}
 use Rattle.std.proofs.lemmas.Cmp.{nat_list_cmp_total}
@@ -13,9 +13,7 @@ use Rattle.serde_json.specs.View.{view, members_view}
 use Rattle.serde_json.specs.declared.value.Value.{Value}
 use Rattle.base_types.specs.Named.{put_in_order}
 use Rattle.access_token.specs.Forms.{is_attribute}
-use Rattle.access_token.specs.Reading.{attributes_in}
-use Rattle.access_token.specs.Formed.{formed, formed_attributes}
-use Rattle.access_token.proofs.Eachs.{chosen, formed-more}
+use Rattle.access_token.specs.Parts.{formed, attributes_in}
 
 abbrev Entries : Type 0
 Entries = List (String Global × Value)
@@ -32,22 +30,8 @@ onto found more = option_map (λ rest. found ++ rest) more
 
 -- what was found stands before what is left, and the names rise
 pub record IsReadBefore (entries : Entries) (found : Attributes) (left : Entries) : Type 0 where
-  pub so_far : formed_attributes (members_view entries) ≡ onto found (formed_attributes (members_view left))
+  pub so_far : attributes_in (members_view entries) ≡ onto found (attributes_in (members_view left))
   pub rising : IsStrictlySortedBy (slice_cmp nat_cmp) (names found left)
-
--- one more entry, where it says an attribute
-pub attributes-more : (entry : String Global × Value) (left : Entries)
-    → formed_attributes (members_view (entry ∷ left))
-    ≡ option_and_then (λ value. option_map (λ more. (string_bytes entry.0, value) ∷ more) (formed_attributes (members_view left))) (formed (λ value. is_attribute (string_bytes entry.0, value)) (as_str (view entry.1)))
-attributes-more entry left = one (as_str (view entry.1))
-  where
-    one : (o : Option (List ℕ)) → formed (list_all is_attribute) (option_and_then (λ value. option_map (λ more. (string_bytes entry.0, value) ∷ more) (attributes_in (members_view left))) o)
-        ≡ option_and_then (λ value. option_map (λ more. (string_bytes entry.0, value) ∷ more) (formed_attributes (members_view left))) (formed (λ value. is_attribute (string_bytes entry.0, value)) o)
-    one None = refl
-    one (Some value) =
-        let name = string_bytes entry.0 in
-        formed-more is_attribute (name, value) (attributes_in (members_view left))
-        ∙ sym (chosen (is_attribute (name, value)) value (λ v. option_map (λ more. (name, v) ∷ more) (formed_attributes (members_view left))))
 
 onto-none : (more : Option Attributes) → more ≡ onto [] more
 onto-none None = refl
@@ -90,16 +74,16 @@ pub read-more : (entries : Entries) (found put : Attributes) (entry : String Glo
 read-more entries found put entry left value before is is_put =
     let last : put ≡ found ++ (string_bytes entry.0, value) ∷ [] = is_put ∙ put-last found (string_bytes entry.0) value (map (λ e. string_bytes e.0) left) before.rising in
     record {
-      so_far = before.so_far ∙ rw (attributes-more entry left, is, last) (onto-more found (string_bytes entry.0, value) (formed_attributes (members_view left)));
+      so_far = before.so_far ∙ rw (is, last) (onto-more found (string_bytes entry.0, value) (attributes_in (members_view left)));
       rising = rw (last, ← names-more found (string_bytes entry.0) value (map (λ e. string_bytes e.0) left)) before.rising;
     }
 
 pub read-none : (entries : Entries) (found : Attributes) (entry : String Global × Value) (left : Entries)
-    → IsReadBefore entries found (entry ∷ left) → formed (λ v. is_attribute (string_bytes entry.0, v)) (as_str (view entry.1)) ≡ None → formed_attributes (members_view entries) ≡ None
-read-none entries found entry left before is = before.so_far ∙ rw (attributes-more entry left, is) refl
+    → IsReadBefore entries found (entry ∷ left) → formed (λ v. is_attribute (string_bytes entry.0, v)) (as_str (view entry.1)) ≡ None → attributes_in (members_view entries) ≡ None
+read-none entries found entry left before is = before.so_far ∙ rw is refl
 
 pub read-begin : (entries left : Entries) (found : Attributes) → found ≡ [] → left ≡ entries → IsStrictlySortedBy string_cmp (map (λ entry. entry.0) entries) → IsReadBefore entries found left
 read-begin entries left found is_found is_left rising = record {
-  so_far = rw (is_found, is_left) (onto-none (formed_attributes (members_view entries)));
+  so_far = rw (is_found, is_left) (onto-none (attributes_in (members_view entries)));
   rising = rw (is_found, is_left) (sorted_keys entries rising);
 }

@@ -1,30 +1,30 @@
 -- A payload's tree says the facts that it was made of.
-use Rattle.std.proofs.Common.{◌≡◌, ◌≤◌, ◌<◌, ◌^◌, ℕ, zero, suc, ◌==◌, eqb, Bool, true, false, not, ◌&&◌, List, [], ◌∷◌, length, refl, ◌∙◌, ap, arith, Option, None, Some, option_map, option_and_then, codes, nat_le}
+use Rattle.std.proofs.Common.{◌≡◌, ◌≤◌, ◌^◌, ℕ, zero, suc, ◌==◌, Bool, true, false, ◌&&◌, List, [], ◌∷◌, length, refl, ◌∙◌, ap, arith, Option, None, Some, option_map, option_and_then, codes, nat_le, nat_lt}
 use Rattle.std.specs.List.{All, list_all, slice_split}
 use Rattle.std.specs.Fmt.{decimal}
-use Rattle.std.proofs.lemmas.Bool.Decides.{nat_tests}
+use Rattle.std.specs.Str.Parse.{digits_value}
+use Rattle.std.proofs.lemmas.Bool.Decides.{nat_tests, Decides-ltb}
 use Rattle.std.proofs.lemmas.Bool.{leb-true}
 use Rattle.std.proofs.lemmas.List.Sums.{AllPass-from_list_all}
 use Rattle.std.proofs.lemmas.Fmt.{decimal_is_IsNumeral}
 use Rattle.std.proofs.lemmas.List.Splits.{slice_split_none, slice_split_at}
 use Rattle.serde_json.specs.Data.{Data, number, unsigned, string, object, no_members, member}
+use Rattle.serde_json.specs.Find.{get}
 use Rattle.base_types.specs.Forms.{has_size}
 use Rattle.json_text.specs.Document.{item_texts}
-use Rattle.iam_names.specs.Forms.{is_digit, begins_with, is_plain_byte, is_project, is_id, is_scope_word}
-use Rattle.iam_names.specs.PoolName.{pool_text}
+use Rattle.base_types.specs.Reading.{◌>>=◌}
+use Rattle.iam_names.specs.Forms.{is_plain_byte, is_scope_word, is_account}
+use Rattle.iam_names.specs.PoolName.{pool_text, is_pool_name}
 use Rattle.iam_names.specs.declared.pool_name.PoolName.{PoolName}
 use Rattle.iam_names.specs.declared.who.Who.{Who}
 use Rattle.iam_names.specs.declared.who.Who.TheVariants.{Outside, Account}
-use Rattle.iam_names.proofs.CutLemmas.{lacks, cut_at-append}
+use Rattle.iam_names.proofs.ReadBackLemmas.{pool_of_text-pool_text}
 use Rattle.access_token.specs.declared.facts.Facts.{Facts}
-use Rattle.access_token.specs.Facts.{name_of}
-use Rattle.access_token.specs.Forms.{is_pool, is_who, is_identity, are_words}
+use Rattle.access_token.specs.Forms.{is_name, is_attribute, is_who, is_identity, are_words}
 use Rattle.access_token.specs.Payload.{optional, items, nested, words_text, last_words, attributes_data, who_data, wif_data, payload_data}
-use Rattle.access_token.specs.Reading.{each_item, names_in, words_in, pool_in, attributes_in, who_in, assembled, facts_in}
-
-both : (a b : Bool) → (a && b) ≡ true → (a ≡ true) × (b ≡ true)
-both true b h = (refl, h)
-both false b h = cc
+use Rattle.access_token.specs.Parts.{formed, each_item, list_at, names_in, account_in, pool_in, scope_in, scopes_in, attributes_in, outside_in, who_in, facts_in}
+use Rattle.access_token.proofs.Formed.{AreFormed}
+use Rattle.access_token.proofs.Options.{both, formed-some}
 
 -- a list whose items read back reads back
 each_back : {A : Type 0} (write : A → Data) (read : Data → Option A) (test : A → Bool) → ((x : A) → test x ≡ true → read (write x) ≡ Some x) → (xs : List A) → list_all test xs ≡ true → each_item read (items write xs) ≡ Some xs
@@ -76,87 +76,109 @@ split_back (word ∷ next ∷ words) all some =
     slice_split_at (λ byte. byte == 32) word 32 (words_text (next ∷ words)) (word_free word parts.0) refl
     ∙ ap (λ (l : List (List ℕ)). word ∷ l) (split_back (next ∷ words) parts.1 (omega arith))
 
-words_back : (words : List (List ℕ)) → are_words words ≡ true → words_in (string (words_text words)) ≡ Some words
-words_back words h =
+scope_back : (words : List (List ℕ)) → are_words words ≡ true → scope_in (string (words_text words)) ≡ Some words
+scope_back words h =
     let some = both (nat_le 1 (length words)) (nat_le (length words) 16 && list_all is_scope_word words) h in
     let all = both (nat_le (length words) 16) (list_all is_scope_word words) some.1 in
-    ap (λ (l : List (List ℕ)). Some l) (split_back words all.1 (leb-true 1 (length words) some.0))
-
--- ---- pools
-
-digit_lacks : (byte : ℕ) → is_digit byte ≡ true → not (eqb byte 47) ≡ true
-digit_lacks byte h = grind (arith, nat_tests)
-
-digits_lack : (text : List ℕ) → list_all is_digit text ≡ true → lacks 47 text ≡ true
-digits_lack [] h = refl
-digits_lack (byte ∷ text) h =
-    let parts = both (is_digit byte) (list_all is_digit text) h in
-    rw (digit_lacks byte parts.0, digits_lack text parts.1) refl
-
-pool_back : (pool : PoolName) → is_pool pool ≡ true → pool_in (string (pool_text pool)) ≡ Some pool
-pool_back pool h =
-    let parts = both (is_project pool.project) (is_id pool.pool) h in
-    let rest = both (has_size 1 19 pool.project) (list_all is_digit pool.project && not (begins_with 48 pool.project)) parts.0 in
-    let digits = both (list_all is_digit pool.project) (not (begins_with 48 pool.project)) rest.1 in
-    rw (cut_at-append 47 pool.project pool.pool (digits_lack pool.project digits.0), parts.0, parts.1) refl
+    formed-some are_words _ words (ap (λ (l : List (List ℕ)). Some l) (split_back words all.1 (leb-true 1 (length words) some.0))) h
 
 -- ---- the parts
 
-attributes_back : (attributes : List (List ℕ × List ℕ)) → attributes_in (attributes_data attributes) ≡ Some attributes
-attributes_back [] = refl
-attributes_back (attribute ∷ attributes) = ap (λ (o : Option (List (List ℕ × List ℕ))). option_map (λ rest. attribute ∷ rest) o) (attributes_back attributes)
+account_back : (account : List ℕ) → is_account account ≡ true → account_in (string account) ≡ Some account
+account_back account form = formed-some is_account (Some account) account refl form
+
+pool_back : (pool : PoolName) → is_pool_name pool ≡ true → pool_in (string (pool_text pool)) ≡ Some pool
+pool_back pool form = pool_of_text-pool_text pool form
+
+attributes_back : (attributes : List (List ℕ × List ℕ)) → list_all is_attribute attributes ≡ true → attributes_in (attributes_data attributes) ≡ Some attributes
+attributes_back [] all = refl
+attributes_back (attribute ∷ attributes) all =
+    let parts = both (is_attribute attribute) (list_all is_attribute attributes) all in
+    rw (parts.0, attributes_back attributes parts.1) refl
+
+outside_back : (pool : PoolName) (identity : _) → is_who (Outside pool identity) ≡ true → outside_in (who_data (Outside pool identity)) ≡ Some (Outside pool identity)
+unfolding outside_in who_data
+outside_back pool identity h =
+    let of_pool = both (is_pool_name pool) (is_identity identity) h in
+    let subject = both (has_size 1 127 identity.subject) (list_all (has_size 1 256) identity.groups && list_all is_attribute identity.attributes) of_pool.1 in
+    let rest = both (list_all (has_size 1 256) identity.groups) (list_all is_attribute identity.attributes) subject.1 in
+    rw (attributes_back identity.attributes rest.1, texts_back identity.groups, rest.0, pool_back pool of_pool.0, subject.0) refl
 
 who_back : (who : Who) → is_who who ≡ true → who_in (who_data who) ≡ Some who
-unfolding who_in who_data
-who_back (Outside pool identity) h =
-    rw (attributes_back identity.attributes, texts_back identity.groups, pool_back pool (both (is_pool pool) (is_identity identity) h).0) refl
-who_back (Account account) h = refl
+unfolding who_data
+who_back (Outside pool identity) h = outside_back pool identity h
+who_back (Account account) h = rw h refl
 
--- what the forms of facts give the reader
-pub record IsReadable (facts : Facts) : Type 0 where
-  pub number : facts.number < 2 ^ 32
-  pub who : is_who facts.who ≡ true
-  pub act : length facts.act ≤ 8
-  pub may_act : length facts.may_act ≤ 8
-  pub pools : list_all is_pool facts.pools ≡ true
-  pub scopes : list_all are_words facts.scopes ≡ true
+-- ---- the whole
 
-tree : List ℕ → Facts → Option Data → Option Data → List ℕ → List ℕ → Data
-tree issuer facts act may_act scope sub = object (
+abbrev Texts : Type 0
+Texts = List (List ℕ)
+
+-- the facts of the parts that are there
+abbrev joined : Option Texts → Option ℕ → Option ℕ → Option ℕ → Option Texts → Option (List ℕ) → Data → Option Facts
+joined act_there exp_there iat_there number_there may_act_there sub_there wif = do
+  act ← act_there
+  exp ← exp_there
+  iat ← iat_there
+  whole ← number_there
+  may_act ← may_act_there
+  sub ← sub_there
+  accounts ← list_at account_in (codes "accounts") wif
+  pools ← list_at pool_in (codes "pools") wif
+  scopes ← scopes_in wif
+  who ← option_and_then who_in (get (codes "who") wif)
+  Some (record { number = whole; sub = sub; iat = iat; exp = exp; act = act; may_act = may_act; who = who; pools = pools; accounts = accounts; scopes = scopes })
+
+-- an optional member's names, each of its form
+abbrev formed_names : List ℕ → (List ℕ → Bool) → Option Data → Option Texts
+formed_names name form there = formed (list_all form) (names_in name 8 there)
+
+joined_back : (facts : Facts) (act may_act : Option Texts) → AreFormed facts → act ≡ Some facts.act → may_act ≡ Some facts.may_act
+    → joined act (formed (λ seconds. nat_lt seconds (2 ^ 53)) (Some facts.exp)) (formed (λ seconds. nat_lt seconds (2 ^ 53)) (Some facts.iat))
+    (formed (λ n. nat_lt n (2 ^ 32)) (Some (digits_value 10 (decimal facts.number)))) may_act (formed is_name (Some facts.sub)) (wif_data facts) ≡ Some facts
+unfolding wif_data
+joined_back facts act may_act is act_is may_act_is =
+    let written : digits_value 10 (decimal facts.number) ≡ facts.number = (decimal_is_IsNumeral facts.number (omega (arith, (Decides-ltb facts.number (2 ^ 32)).0 is.number))).1 in
+    rw (
+      act_is,
+      is.exp,
+      is.iat,
+      written,
+      is.number,
+      may_act_is,
+      is.sub,
+      each_back string account_in is_account account_back facts.accounts is.accounts,
+      each_back (λ pool. string (pool_text pool)) pool_in is_pool_name pool_back facts.pools is.pools,
+      each_back (λ words. string (words_text words)) scope_in are_words scope_back facts.scopes is.scopes,
+      is.scopes_some,
+      who_back facts.who is.who,
+    ) refl
+
+-- a payload's tree, with the two optional members, the scope and the subject aside
+tree : List ℕ → Facts → Option Data → Option Data → List ℕ → Data
+tree issuer facts act may_act scope = object (
     optional (codes "act") act (
     member (codes "exp") (number (unsigned facts.exp)) (
-    member (codes "iat") (number (unsigned facts.at)) (
+    member (codes "iat") (number (unsigned facts.iat)) (
     member (codes "iss") (string issuer) (
     member (codes "jti") (string (decimal facts.number)) (
     optional (codes "may_act") may_act (
     member (codes "scope") (string scope) (
-    member (codes "sub") (string sub) (
+    member (codes "sub") (string facts.sub) (
     member (codes "wif") (wif_data facts) no_members)))))))))
 
-assembled_back : (facts : Facts) (a m : Option (List (List ℕ))) → IsReadable facts → a ≡ Some facts.act → m ≡ Some facts.may_act → assembled a (Some facts.exp) (Some facts.at) (Some (decimal facts.number)) m (Some (wif_data facts)) ≡ Some facts
-unfolding assembled wif_data
-assembled_back facts a m is act may_act =
-    rw (
-      act,
-      may_act,
-      texts_back facts.accounts,
-      each_back (λ pool. string (pool_text pool)) pool_in is_pool pool_back facts.pools is.pools,
-      each_back (λ words. string (words_text words)) words_in are_words words_back facts.scopes is.scopes,
-      who_back facts.who is.who,
-    )
-    (ap (λ (n : ℕ). Some (record facts { number = n })) (decimal_is_IsNumeral facts.number (omega (arith, is.number))).1)
+tree_back : (issuer : List ℕ) (facts : Facts) (act may_act : Option Data) (scope : List ℕ) → AreFormed facts
+    → formed_names (codes "act") is_name act ≡ Some facts.act → formed_names (codes "may_act") (has_size 1 1024) may_act ≡ Some facts.may_act
+    → facts_in (tree issuer facts act may_act scope) ≡ Some facts
+unfolding tree facts_in
+tree_back issuer facts None None scope is a m = joined_back facts (formed_names (codes "act") is_name None) (formed_names (codes "may_act") (has_size 1 1024) None) is a m
+tree_back issuer facts None (Some may) scope is a m = joined_back facts (formed_names (codes "act") is_name None) (formed_names (codes "may_act") (has_size 1 1024) (Some may)) is a m
+tree_back issuer facts (Some actor) None scope is a m = joined_back facts (formed_names (codes "act") is_name (Some actor)) (formed_names (codes "may_act") (has_size 1 1024) None) is a m
+tree_back issuer facts (Some actor) (Some may) scope is a m = joined_back facts (formed_names (codes "act") is_name (Some actor)) (formed_names (codes "may_act") (has_size 1 1024) (Some may)) is a m
 
-tree_back : (issuer : List ℕ) (facts : Facts) (act may_act : Option Data) (scope sub : List ℕ) → IsReadable facts
-    → names_in (codes "act") 8 act ≡ Some facts.act → names_in (codes "may_act") 8 may_act ≡ Some facts.may_act
-    → facts_in (tree issuer facts act may_act scope sub) ≡ Some facts
-unfolding tree
-tree_back issuer facts None None scope sub is a m = assembled_back facts (names_in (codes "act") 8 None) (names_in (codes "may_act") 8 None) is a m
-tree_back issuer facts None (Some may) scope sub is a m = assembled_back facts (names_in (codes "act") 8 None) (names_in (codes "may_act") 8 (Some may)) is a m
-tree_back issuer facts (Some actor) None scope sub is a m = assembled_back facts (names_in (codes "act") 8 (Some actor)) (names_in (codes "may_act") 8 None) is a m
-tree_back issuer facts (Some actor) (Some may) scope sub is a m = assembled_back facts (names_in (codes "act") 8 (Some actor)) (names_in (codes "may_act") 8 (Some may)) is a m
-
-pub facts_back : (issuer : List ℕ) (facts : Facts) → IsReadable facts → facts_in (payload_data issuer facts) ≡ Some facts
+pub facts_back : (issuer : List ℕ) (facts : Facts) → AreFormed facts → facts_in (payload_data issuer facts) ≡ Some facts
 unfolding payload_data tree
 facts_back issuer facts is =
-    tree_back issuer facts (nested (codes "act") facts.act) (nested (codes "may_act") facts.may_act) (words_text (last_words facts.scopes)) (name_of facts.who) is
-    (act_back 8 facts.act is.act) (may_act_back 8 facts.may_act is.may_act)
+    tree_back issuer facts (nested (codes "act") facts.act) (nested (codes "may_act") facts.may_act) (words_text (last_words facts.scopes)) is
+    (formed-some (list_all is_name) _ facts.act (act_back 8 facts.act (leb-true (length facts.act) 8 is.act_few)) is.act)
+    (formed-some (list_all (has_size 1 1024)) _ facts.may_act (may_act_back 8 facts.may_act (leb-true (length facts.may_act) 8 is.may_act_few)) is.may_act)

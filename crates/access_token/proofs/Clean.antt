@@ -13,7 +13,6 @@ use Rattle.iam_names.specs.declared.who.Who.TheVariants.{Outside, Account}
 use Rattle.iam_names.specs.PoolName.{pool_text}
 use Rattle.access_token.specs.Exact.{IsExactWho, IsExact}
 use Rattle.access_token.specs.declared.facts.Facts.{Facts}
-use Rattle.access_token.specs.Facts.{name_of}
 use Rattle.access_token.specs.Payload.{optional, items, nested, words_text, last_words, attributes_data, who_data, wif_data, payload_data}
 use Rattle.access_token.proofs.Writing.{clean_attributes}
 
@@ -77,8 +76,8 @@ pub payload_clean : (issuer : List ℕ) (facts : Facts) → IsExact issuer facts
 unfolding payload_data
 payload_clean issuer facts is =
     let wif : HasCleanMembers (member (codes "wif") (wif_data facts) no_members) = (wif_clean facts is.who, tt, tt) in
-    let sub : HasCleanMembers (member (codes "sub") (string (name_of facts.who)) (member (codes "wif") (wif_data facts) no_members)) = (tt, wif, (refl, tt)) in
-    let tail = member (codes "scope") (string (words_text (last_words facts.scopes))) (member (codes "sub") (string (name_of facts.who)) (member (codes "wif") (wif_data facts) no_members)) in
+    let sub : HasCleanMembers (member (codes "sub") (string facts.sub) (member (codes "wif") (wif_data facts) no_members)) = (tt, wif, (refl, tt)) in
+    let tail = member (codes "scope") (string (words_text (last_words facts.scopes))) (member (codes "sub") (string facts.sub) (member (codes "wif") (wif_data facts) no_members)) in
     let scope : HasCleanMembers tail = (tt, sub, (refl, (refl, tt))) in
     let may = nested (codes "may_act") facts.may_act in
     let may_act = optional_clean (codes "may_act") may tail (may_act_clean facts.may_act) scope (refl, (refl, (refl, tt))) in
@@ -88,9 +87,9 @@ payload_clean issuer facts is =
     let exp = after_optional (codes "exp") (codes "may_act") may tail refl (refl, (refl, (refl, tt))) in
     let act = after_optional (codes "act") (codes "may_act") may tail refl (refl, (refl, (refl, tt))) in
     optional_clean (codes "act") (nested (codes "act") facts.act)
-    (member (codes "exp") (number (unsigned facts.exp)) (member (codes "iat") (number (unsigned facts.at)) (member (codes "iss") (string issuer) (member (codes "jti") (string (decimal facts.number)) (optional (codes "may_act") may tail)))))
+    (member (codes "exp") (number (unsigned facts.exp)) (member (codes "iat") (number (unsigned facts.iat)) (member (codes "iss") (string issuer) (member (codes "jti") (string (decimal facts.number)) (optional (codes "may_act") may tail)))))
     (act_clean facts.act)
-    (is.exp, (is.at, (tt, (tt, may_act, jti), (refl, iss)), (refl, (refl, iat))), (refl, (refl, (refl, exp))))
+    (is.exp, (is.iat, (tt, (tt, may_act, jti), (refl, iss)), (refl, (refl, iat))), (refl, (refl, (refl, exp))))
     (refl, (refl, (refl, (refl, act))))
 
 -- ---- how deep the tree is
@@ -138,12 +137,12 @@ wif_deep facts = omega (
 pub payload_deep : (issuer : List ℕ) (facts : Facts) → IsExact issuer facts → depth (payload_data issuer facts) ≤ max_depth
 unfolding payload_data
 payload_deep issuer facts is =
-    let tail = member (codes "scope") (string (words_text (last_words facts.scopes))) (member (codes "sub") (string (name_of facts.who)) (member (codes "wif") (wif_data facts) no_members)) in
+    let tail = member (codes "scope") (string (words_text (last_words facts.scopes))) (member (codes "sub") (string facts.sub) (member (codes "wif") (wif_data facts) no_members)) in
     let may = nested (codes "may_act") facts.may_act in
     omega (
       arith,
       optional_deep (codes "act") (nested (codes "act") facts.act)
-          (member (codes "exp") (number (unsigned facts.exp)) (member (codes "iat") (number (unsigned facts.at)) (member (codes "iss") (string issuer) (member (codes "jti") (string (decimal facts.number)) (optional (codes "may_act") may tail))))),
+          (member (codes "exp") (number (unsigned facts.exp)) (member (codes "iat") (number (unsigned facts.iat)) (member (codes "iss") (string issuer) (member (codes "jti") (string (decimal facts.number)) (optional (codes "may_act") may tail))))),
       optional_deep (codes "may_act") may tail,
       nested_deep (codes "act") facts.act,
       nested_deep (codes "may_act") facts.may_act,

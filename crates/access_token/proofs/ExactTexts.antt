@@ -36,7 +36,7 @@ jti_behind (Some d) exp at issuer jti rest = refl
 
 pub jti-payload_data : (issuer : List ℕ) (facts : Facts) → text_at (codes "jti") (payload_data issuer facts) ≡ Some (decimal facts.number)
 unfolding payload_data
-jti-payload_data issuer facts = jti_behind (nested (codes "act") facts.act) facts.exp facts.at issuer (decimal facts.number) _
+jti-payload_data issuer facts = jti_behind (nested (codes "act") facts.act) facts.exp facts.iat issuer (decimal facts.number) _
 
 pub jti-payload_text : (issuer : List ℕ) (facts : Facts) → IsExact issuer facts → option_and_then (text_at (codes "jti")) (document (payload_text issuer facts)) ≡ Some (decimal facts.number)
 jti-payload_text issuer facts is = ap (option_and_then (text_at (codes "jti"))) (document-payload_text issuer facts is) ∙ jti-payload_data issuer facts

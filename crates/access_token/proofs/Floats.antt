@@ -9,7 +9,6 @@ use Rattle.iam_names.specs.declared.who.Who.TheVariants.{Outside, Account}
 use Rattle.iam_names.specs.PoolName.{pool_text}
 use Rattle.access_token.specs.Active.{active_data}
 use Rattle.access_token.specs.declared.facts.Facts.{Facts}
-use Rattle.access_token.specs.Facts.{name_of}
 use Rattle.access_token.specs.Payload.{optional, items, nested, words_text, last_words, attributes_data, who_data, wif_data, payload_data}
 
 IsFloatless : Option Data → Type 0
@@ -54,10 +53,10 @@ wif_floatless facts = rw (
 pub payload_floatless : (issuer : List ℕ) (facts : Facts) → has_float (payload_data issuer facts) ≡ false
 unfolding payload_data
 payload_floatless issuer facts =
-    let tail = member (codes "scope") (string (words_text (last_words facts.scopes))) (member (codes "sub") (string (name_of facts.who)) (member (codes "wif") (wif_data facts) no_members)) in
+    let tail = member (codes "scope") (string (words_text (last_words facts.scopes))) (member (codes "sub") (string facts.sub) (member (codes "wif") (wif_data facts) no_members)) in
     let may_act = optional_floatless (codes "may_act") (nested (codes "may_act") facts.may_act) tail (nested_floatless (codes "may_act") facts.may_act) (rw (wif_floatless facts) refl) in
     optional_floatless (codes "act") (nested (codes "act") facts.act)
-    (member (codes "exp") (number (unsigned facts.exp)) (member (codes "iat") (number (unsigned facts.at)) (member (codes "iss") (string issuer) (member (codes "jti") (string (decimal facts.number)) (optional (codes "may_act") (nested (codes "may_act") facts.may_act) tail)))))
+    (member (codes "exp") (number (unsigned facts.exp)) (member (codes "iat") (number (unsigned facts.iat)) (member (codes "iss") (string issuer) (member (codes "jti") (string (decimal facts.number)) (optional (codes "may_act") (nested (codes "may_act") facts.may_act) tail)))))
     (nested_floatless (codes "act") facts.act)
     may_act
 

@@ -2,10 +2,9 @@ pub mod AttributeSteps
 pub mod Back
 pub mod Clean
 pub mod Digits
-pub mod Eachs
 pub mod ExactTexts
 pub mod Floats
-pub mod Forms
+pub mod Formed
 pub mod Options
 pub mod Says
 pub mod Steps

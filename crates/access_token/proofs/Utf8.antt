@@ -12,10 +12,9 @@ use Rattle.json_text.specs.Clean.{HasUtf8, ItemsHaveUtf8, MembersHaveUtf8}
 use Rattle.iam_names.specs.declared.pool_name.PoolName.{PoolName}
 use Rattle.iam_names.specs.declared.who.Who.{Who}
 use Rattle.iam_names.specs.declared.who.Who.TheVariants.{Outside, Account}
-use Rattle.iam_names.specs.PoolName.{pool_text, pool_path}
+use Rattle.iam_names.specs.PoolName.{pool_text}
 use Rattle.access_token.specs.Exact.{AreUtf8, IsExactPool, IsExactWho, IsExact}
 use Rattle.access_token.specs.declared.facts.Facts.{Facts}
-use Rattle.access_token.specs.Facts.{name_of}
 use Rattle.access_token.specs.Payload.{optional, items, nested, words_text, last_words, attributes_data, who_data, wif_data, payload_data}
 
 HasUtf8If : Option Data → Type 0
@@ -55,23 +54,6 @@ last_utf8 (words ∷ next ∷ more) all = last_utf8 (next ∷ more) all.1
 
 pool_utf8 : (pool : PoolName) → IsExactPool pool → IsUtf8 (pool_text pool)
 pool_utf8 pool is = IsUtf8-append pool.project (codes "/" ++ pool.pool) is.project (IsUtf8-append (codes "/") pool.pool (IsUtf8-are_ascii (codes "/") refl) is.pool_utf8)
-
-path_utf8 : (pool : PoolName) → IsExactPool pool → IsUtf8 (pool_path pool)
-path_utf8 pool is =
-    let place = codes "/locations/global/workloadIdentityPools/" in
-    let front = codes "iam.googleapis.com/projects/" in
-    IsUtf8-append front (pool.project ++ (place ++ pool.pool)) (IsUtf8-are_ascii front refl)
-    (IsUtf8-append pool.project (place ++ pool.pool) is.project (IsUtf8-append place pool.pool (IsUtf8-are_ascii place refl) is.pool_utf8))
-
-name_utf8 : (who : Who) → IsExactWho who → IsUtf8 (name_of who)
-name_utf8 (Outside pool identity) is =
-    let front = codes "principal://" in
-    let place = codes "/subject/" in
-    IsUtf8-append front (pool_path pool ++ (place ++ identity.subject)) (IsUtf8-are_ascii front refl)
-    (IsUtf8-append (pool_path pool) (place ++ identity.subject) (path_utf8 pool is.0) (IsUtf8-append place identity.subject (IsUtf8-are_ascii place refl) is.1.subject))
-name_utf8 (Account account) is =
-    let front = codes "serviceAccount:" in
-    IsUtf8-append front account (IsUtf8-are_ascii front refl) is
 
 texts_utf8 : (xs : List (List ℕ)) → AreUtf8 xs → ItemsHaveUtf8 (items string xs)
 texts_utf8 xs all = items_utf8 string IsUtf8 (λ x is. is) xs all
@@ -118,13 +100,13 @@ unfolding payload_data
 payload_utf8 issuer facts is =
     let act = IsUtf8-are_ascii (codes "act") refl in
     let may_act = IsUtf8-are_ascii (codes "may_act") refl in
-    let tail = member (codes "scope") (string (words_text (last_words facts.scopes))) (member (codes "sub") (string (name_of facts.who)) (member (codes "wif") (wif_data facts) no_members)) in
+    let tail = member (codes "scope") (string (words_text (last_words facts.scopes))) (member (codes "sub") (string facts.sub) (member (codes "wif") (wif_data facts) no_members)) in
     let tail_is : MembersHaveUtf8 tail = (
       IsUtf8-are_ascii (codes "scope") refl,
       words_utf8 (last_words facts.scopes) (last_utf8 facts.scopes is.scopes),
       (
         IsUtf8-are_ascii (codes "sub") refl,
-        name_utf8 facts.who is.who,
+        is.sub,
         (IsUtf8-are_ascii (codes "wif") refl, wif_utf8 issuer facts is, tt),
       ),
     ) in
@@ -132,7 +114,7 @@ payload_utf8 issuer facts is =
     let rest_is : MembersHaveUtf8 rest = optional_utf8 (codes "may_act") (nested (codes "may_act") facts.may_act) tail may_act (nested_utf8 (codes "may_act") facts.may_act may_act is.may_act.utf8) tail_is in
     let jti : IsUtf8 (decimal facts.number) = IsUtf8-from_ascii (decimal facts.number) (IsAscii-decimal facts.number (omega (arith, is.number))) in
     optional_utf8 (codes "act") (nested (codes "act") facts.act)
-    (member (codes "exp") (number (unsigned facts.exp)) (member (codes "iat") (number (unsigned facts.at)) (member (codes "iss") (string issuer) (member (codes "jti") (string (decimal facts.number)) rest))))
+    (member (codes "exp") (number (unsigned facts.exp)) (member (codes "iat") (number (unsigned facts.iat)) (member (codes "iss") (string issuer) (member (codes "jti") (string (decimal facts.number)) rest))))
     act
     (nested_utf8 (codes "act") facts.act act is.act.utf8) (
       IsUtf8-are_ascii (codes "exp") refl,

@@ -1,7 +1,7 @@
 pub mod Active
 pub mod Exact
 pub mod Facts
-pub mod Formed
 pub mod Forms
+pub mod Parts
 pub mod Payload
 pub mod Reading

@@ -4,8 +4,7 @@ ghost use Rattle.serde_json.specs.View.{view};
 ghost use Rattle.base_types.specs.Forms.{has_size as size_is};
 ghost use Rattle.iam_names.specs.Reads.{ReadsName};
 ghost use Rattle.access_token.specs.Forms as form;
-ghost use Rattle.access_token.specs.Reading.{names_in as names_under};
-ghost use Rattle.access_token.specs.Formed.{act_in, may_act_in, are_names as names_form};
+ghost use Rattle.access_token.specs.Parts.{names_in as names_under, act_in, may_act_in};
 
 use base_types::{Items, Text, has_size};
 use iam_names::{Member, NameError};
@@ -20,7 +19,7 @@ pub(crate) fn act_at(alloc: Global, json: &Value) -> Result<Items<Text>, NameErr
     ensures { ReadsName result (act_in (view json.now)) }
 {
     let names = names_in(alloc, "act", json.get("act"))?;
-    if are_names(alloc, &names)? {
+    if are_names(alloc, names.as_slice())? {
         Ok(names)
     } else {
         Err(NameError::Form)
@@ -32,7 +31,7 @@ pub(crate) fn may_act_at(alloc: Global, json: &Value) -> Result<Items<Text>, Nam
     ensures { ReadsName result (may_act_in (view json.now)) }
 {
     let names = names_in(alloc, "may_act", json.get("may_act"))?;
-    if are_actors(&names) {
+    if are_actors(names.as_slice()) {
         Ok(names)
     } else {
         Err(NameError::Form)
@@ -61,17 +60,7 @@ fn names_in(alloc: Global, name: &str, outermost: Option<&Value>) -> Result<Item
     }
 }
 
-/// Whether these are at most 8 names of principals and service accounts.
-fn are_names(alloc: Global, names: &Items<Text>) -> Result<bool, AllocError>
-    ensures { IfOk result (λ holds. holds ≡ names_form names.now) }
-{
-    if names.len() > MAX_ACTORS {
-        return Ok(false);
-    }
-    are_all_names(alloc, names.as_slice())
-}
-
-fn are_all_names(alloc: Global, names: &[Text]) -> Result<bool, AllocError>
+fn are_names(alloc: Global, names: &[Text]) -> Result<bool, AllocError>
     ensures { IfOk result (λ holds. holds ≡ list_all form.is_name names.now) }
 {
     for name in names {
@@ -82,6 +71,7 @@ fn are_all_names(alloc: Global, names: &[Text]) -> Result<bool, AllocError>
     Ok(true)
 }
 
+/// Whether it names a principal or a service account.
 pub(crate) fn is_name(alloc: Global, text: &str) -> Result<bool, AllocError>
     ensures { IfOk result (λ holds. holds ≡ form.is_name text.now) }
 {
@@ -97,17 +87,11 @@ fn is_single(member: &Member) -> bool
 {
     match member {
         Member::Principal { .. } | Member::Account(_) => true,
-        _ => false,
+        Member::Group { .. } | Member::Attribute { .. } | Member::Pool(_) => false,
     }
 }
 
-fn are_actors(names: &Items<Text>) -> bool
-    ensures { result ≡ form.are_actors names.now }
-{
-    names.len() <= MAX_ACTORS && are_sized(names.as_slice())
-}
-
-fn are_sized(names: &[Text]) -> bool
+fn are_actors(names: &[Text]) -> bool
     ensures { result ≡ list_all (size_is 1 1024) names.now }
 {
     names.iter().all(|name| has_size(name.as_str(), 1, 1024))

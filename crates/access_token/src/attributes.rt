@@ -3,7 +3,7 @@ ghost use Rattle.serde_json.specs.Find.{as_str as text_of};
 ghost use Rattle.serde_json.specs.View.{view, members_view};
 ghost use Rattle.iam_names.specs.Reads.{ReadsName};
 ghost use Rattle.access_token.specs.Forms.{is_attribute as attribute_form};
-ghost use Rattle.access_token.specs.Formed.{formed, formed_attributes, attributes_at as attributes_under};
+ghost use Rattle.access_token.specs.Parts.{formed, attributes_in, attributes_at as attributes_under};
 
 use base_types::{Text, TextMap, has_size};
 use iam_names::{AttributeForm, Form, NameError};
@@ -21,7 +21,7 @@ pub(crate) fn attributes_at(alloc: Global, json: &Value) -> Result<TextMap<Text>
 }
 
 fn attributes_of(alloc: Global, members: &Map<String, Value>) -> Result<TextMap<Text>, NameError>
-    ensures { ReadsName result (formed_attributes (members_view members.now.entries)) }
+    ensures { ReadsName result (attributes_in (members_view members.now.entries)) }
 {
     let mut attributes = TextMap::new(alloc);
     for (name, json) in members.iter() {

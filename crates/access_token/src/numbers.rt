@@ -4,7 +4,7 @@ ghost use Rattle.std.specs.Str.Parse.{digits_value};
 ghost use Rattle.serde_json.specs.View.{view};
 ghost use Rattle.base_types.specs.Forms.{passing};
 ghost use Rattle.iam_names.specs.Reads.{ReadsName};
-ghost use Rattle.access_token.specs.Formed.{date_in, number_in};
+ghost use Rattle.access_token.specs.Parts.{date_in, number_in};
 
 use iam_names::NameError;
 use json_text::{text_at, whole_number_at};

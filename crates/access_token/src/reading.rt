@@ -1,10 +1,9 @@
 ghost use Rattle.std.specs.Prelude.{◌≡◌, codes, IfOk, option_and_then};
 ghost use Rattle.std.specs.Str.{bytes_eq};
 ghost use Rattle.serde_json.specs.View.{view};
-ghost use Rattle.json_text.specs.Document.{document, text_at as text_member};
+ghost use Rattle.json_text.specs.Document.{document};
 ghost use Rattle.iam_names.specs.Reads.{ReadsName};
-ghost use Rattle.access_token.specs.Forms.{is_name as name_form};
-ghost use Rattle.access_token.specs.Formed.{formed, formed_in};
+ghost use Rattle.access_token.specs.Parts.{facts_in as facts_under, sub_in};
 ghost use Rattle.access_token.specs.Payload.{payload_text};
 ghost use Rattle.access_token.specs.Reading.{payload_facts, ReadsPayload};
 
@@ -41,16 +40,9 @@ impl From<AllocError> for PayloadFault {
 }
 
 /// The facts that a token's payload says that is written for the issuer. `Form` comes exactly where it says none.
+#[tactic(auto, unfolding(crate::specs::Reading::payload_facts))]
 pub fn read_payload(alloc: Global, issuer: &str, payload: &[u8]) -> Result<Facts, PayloadFault>
     ensures { ReadsPayload result (payload_facts issuer.now payload.now) }
-{
-    written_facts(alloc, issuer, payload)
-}
-
-// The facts in the payload, where the payload is written for them.
-fn written_facts(alloc: Global, issuer: &str, payload: &[u8]) -> Result<Facts, PayloadFault>
-    ensures { ReadsPayload result (formed (λ facts. bytes_eq (payload_text issuer.now facts) payload.now)
-        (option_and_then formed_in (document payload.now))) }
 {
     let facts = facts_in(alloc, payload)?;
     match is_written_as(alloc, issuer, &facts, payload) {
@@ -81,7 +73,7 @@ fn is_written_as(
 
 // The facts whose parts stand in a payload, each of its form.
 fn facts_in(alloc: Global, payload: &[u8]) -> Result<Facts, PayloadFault>
-    ensures { ReadsPayload result (option_and_then formed_in (document payload.now)) }
+    ensures { ReadsPayload result (option_and_then facts_under (document payload.now)) }
 {
     match read_document(alloc, payload) {
         Ok(json) => facts_or(facts_of(alloc, &json)),
@@ -101,9 +93,9 @@ fn facts_or(read: Result<Facts, NameError>) -> Result<Facts, PayloadFault>
 }
 
 // The facts whose parts stand in a tree, each of its form.
-#[tactic(auto, unfolding(crate::specs::Formed::formed_in))]
+#[tactic(auto, unfolding(crate::specs::Parts::facts_in))]
 fn facts_of(alloc: Global, json: &Value) -> Result<Facts, NameError>
-    ensures { ReadsName result (formed_in (view json.now)) }
+    ensures { ReadsName result (facts_under (view json.now)) }
 {
     let act = act_at(alloc, json)?;
     let exp = date_at(json, "exp")?;
@@ -134,7 +126,7 @@ fn facts_of(alloc: Global, json: &Value) -> Result<Facts, NameError>
 
 // The name of the subject.
 fn sub_at(alloc: Global, json: &Value) -> Result<Text, NameError>
-    ensures { ReadsName result (formed name_form (text_member (codes "sub") (view json.now))) }
+    ensures { ReadsName result (sub_in (view json.now)) }
 {
     let Some(name) = text_at(json, "sub") else {
         return Err(NameError::Form);

@@ -4,9 +4,7 @@ ghost use Rattle.serde_json.specs.View.{view, items_view};
 ghost use Rattle.base_types.specs.Forms.{passing};
 ghost use Rattle.iam_names.specs.Forms.{is_scope_word};
 ghost use Rattle.iam_names.specs.Reads.{ReadsName};
-ghost use Rattle.access_token.specs.Forms as form;
-ghost use Rattle.access_token.specs.Reading.{each_item};
-ghost use Rattle.access_token.specs.Formed.{scope_in, scopes_in};
+ghost use Rattle.access_token.specs.Parts.{each_item, scope_in, scopes_in};
 
 use base_types::Items;
 use iam_names::{NameError, ScopeWord};

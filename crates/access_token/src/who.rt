@@ -4,7 +4,7 @@ ghost use Rattle.serde_json.specs.Find.{get as member};
 ghost use Rattle.serde_json.specs.View.{view};
 ghost use Rattle.base_types.specs.Forms.{has_size as size_is};
 ghost use Rattle.iam_names.specs.Reads.{ReadsName};
-ghost use Rattle.access_token.specs.Formed.{formed_who_in, formed_outside_in, groups_at as groups_under, pool_at as pool_under, subject_at as subject_under};
+ghost use Rattle.access_token.specs.Parts.{who_in, outside_in, groups_at as groups_under, pool_at as pool_under, subject_at as subject_under};
 
 use crate::attributes::attributes_at;
 use crate::wif::pool_of;
@@ -16,7 +16,7 @@ use std::alloc::Global;
 
 /// Whom the token is of.
 pub(crate) fn who_at(alloc: Global, wif: &Value) -> Result<Who, NameError>
-    ensures { ReadsName result (option_and_then formed_who_in (member (codes "who") (view wif.now))) }
+    ensures { ReadsName result (option_and_then who_in (member (codes "who") (view wif.now))) }
 {
     match wif.get("who") {
         Some(who) => who_of(alloc, who),
@@ -25,7 +25,7 @@ pub(crate) fn who_at(alloc: Global, wif: &Value) -> Result<Who, NameError>
 }
 
 fn who_of(alloc: Global, json: &Value) -> Result<Who, NameError>
-    ensures { ReadsName result (formed_who_in (view json.now)) }
+    ensures { ReadsName result (who_in (view json.now)) }
 {
     match text_at(json, "account") {
         Some(account) => Ok(Who::Account(Account::read(alloc, account)?)),
@@ -33,9 +33,9 @@ fn who_of(alloc: Global, json: &Value) -> Result<Who, NameError>
     }
 }
 
-#[tactic(auto, unfolding(crate::specs::Formed::formed_outside_in))]
+#[tactic(auto, unfolding(crate::specs::Parts::outside_in))]
 fn outside_of(alloc: Global, json: &Value) -> Result<Who, NameError>
-    ensures { ReadsName result (formed_outside_in (view json.now)) }
+    ensures { ReadsName result (outside_in (view json.now)) }
 {
     let attributes = attributes_at(alloc, json)?;
     let groups = groups_at(alloc, json)?;

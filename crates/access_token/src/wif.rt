@@ -1,8 +1,7 @@
 ghost use Rattle.std.specs.Prelude.{◌≡◌, codes};
 ghost use Rattle.serde_json.specs.View.{view, items_view};
 ghost use Rattle.iam_names.specs.Reads.{ReadsName};
-ghost use Rattle.access_token.specs.Reading.{each_item, list_at, pool_in};
-ghost use Rattle.access_token.specs.Formed.{account_in};
+ghost use Rattle.access_token.specs.Parts.{each_item, list_at, account_in, pool_in};
 
 use base_types::Items;
 use iam_names::{Account, NameError, PoolName};

@@ -1,10 +1,1 @@
-pub mod AttributeSteps
-pub mod Digits
-pub mod Eachs
-pub mod Forms
-pub mod Options
-pub mod Steps
-pub mod Words
-pub mod Agrees
-pub mod Checks
-pub mod Later
+pub mod Carrying

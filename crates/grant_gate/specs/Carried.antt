@@ -1,16 +1,22 @@
 -- What a token's text carries under a key.
-use Rattle.std.specs.Prelude.{◌≡◌, ℕ, List, Option, None, Some, option_map, Result, Ok, Err, ⊤}
+use Rattle.std.specs.Prelude.{◌≡◌, ℕ, List, Option, None, Some, Result, Ok, Err, ⊤}
 use Rattle.hmac_jws.specs.Verified.{first_jws_fault, payload_of}
 use Rattle.hmac_jws.specs.declared.fault.JwsFault.{JwsFault}
 use Rattle.hmac_jws.specs.declared.fault.JwsFault.TheVariants as jws
-use Rattle.links.specs.Facts.{Facts}
-use Rattle.links.specs.Reading.{payload_facts}
+use Rattle.access_token.specs.declared.facts.Facts.{Facts}
+use Rattle.access_token.specs.Reading.{payload_facts}
 use Rattle.grant_gate.specs.declared.fault.GateFault.{GateFault}
 use Rattle.grant_gate.specs.declared.fault.GateFault.TheVariants.{Shape, Mac, Claims, Memory}
 
+-- a wrong MAC is told apart, and each other fault of the compact form is one of its shape
 abbrev pub gate_fault : JwsFault → GateFault
+gate_fault jws.Parts = Shape
+gate_fault (jws.Base64 part) = Shape
+gate_fault jws.Header = Shape
+gate_fault jws.Alg = Shape
+gate_fault jws.Crit = Shape
 gate_fault jws.Mac = Mac
-gate_fault _ = Shape
+gate_fault jws.Memory = Memory
 
 -- the facts that a payload says, where it says some
 abbrev pub claimed : Option Facts → Result Facts GateFault
@@ -27,8 +33,14 @@ carried_after issuer text None = claimed (payload_facts issuer (payload_of text)
 unfoldable pub carried_of : List ℕ → List ℕ → List ℕ → Result Facts GateFault
 carried_of key issuer text = carried_after issuer text (first_jws_fault key text)
 
--- A text that fails no rule is opened, and one that fails a rule is refused by it.
-abbrev pub Opens : Result (List ℕ) GateFault → List ℕ → Option JwsFault → Type 0
-Opens (Ok payload) text rule = (rule ≡ None) × (payload ≡ payload_of text)
-Opens (Err Memory) text rule = ⊤
-Opens (Err fault) text rule = option_map gate_fault rule ≡ Some fault
+-- A fault says that it is the one for which the text carries no facts, and want of memory says nothing.
+abbrev pub RefusesText : Result Facts GateFault → GateFault → Type 0
+RefusesText there Shape = there ≡ Err Shape
+RefusesText there Mac = there ≡ Err Mac
+RefusesText there Claims = there ≡ Err Claims
+RefusesText there Memory = ⊤
+
+-- the facts that the text carries, or the fault for which it carries none
+abbrev pub ReadsText : Result Facts GateFault → Result Facts GateFault → Type 0
+ReadsText (Ok facts) there = there ≡ Ok facts
+ReadsText (Err fault) there = RefusesText there fault

@@ -1,20 +1,14 @@
--- What a gate decides of a token: by what it carries, and by the recorded link that it was issued for.
-use Rattle.std.specs.Prelude.{ℕ, ◌+◌, List, [], ◌∷◌, Bool, true, false, Option, None, Some, option_map, option_and_then, nat_lt, Result, Ok, Err, if◌then◌else◌}
+-- What a gate decides of a token by what it carries.
+use Rattle.std.specs.Prelude.{ℕ, ◌+◌, List, [], ◌∷◌, Bool, true, false, Option, None, Some, option_map, nat_lt, Result, Ok, Err, if◌then◌else◌}
 use Rattle.base_types.specs.Rules.{first_failing}
 use Rattle.allow_policy.specs.Granting.{granted, scope_allows}
 use Rattle.service_view.specs.View.{View, pool_enabled, account_enabled}
-use Rattle.links.specs.Authority.{admits}
-use Rattle.links.specs.Chain.{Chain}
-use Rattle.links.specs.Facts.{Facts, exp_of, pools_of, accounts_of, scopes_of}
-use Rattle.links.specs.Issued.{issued_link}
-use Rattle.links.specs.State.{Content, chain}
+use Rattle.access_token.specs.declared.facts.Facts.{Facts}
 use Rattle.grant_gate.specs.Carried.{carried_of}
-use Rattle.grant_gate.specs.Facts.{token_facts}
 use Rattle.grant_gate.specs.declared.decision.Decision.{Decision}
 use Rattle.grant_gate.specs.declared.decision.Decision.TheVariants.{Admit, Deny}
 use Rattle.grant_gate.specs.declared.decision.GateRule.{GateRule}
 use Rattle.grant_gate.specs.declared.decision.GateRule.TheVariants.{G1, G2, G3, G4, G5, G6, G7, G9}
-use Rattle.grant_gate.specs.declared.facts.TokenFacts.{TokenFacts}
 use Rattle.grant_gate.specs.declared.fault.GateFault.{GateFault}
 use Rattle.grant_gate.specs.declared.fault.GateFault.TheVariants as fault
 
@@ -30,11 +24,12 @@ abbrev pub denied_unless : Bool → GateRule → Option Decision
 denied_unless true rule = None
 denied_unless false rule = Some (Deny rule 0)
 
+-- whether one of the words allows the permission
 abbrev pub words_allow : View → List ℕ → List (List ℕ) → Bool
 words_allow view permission words = scope_allows view.lists words permission
 
--- the rules of the lists that a token carries, but for the grant
-abbrev pub denials : View → TokenFacts → List ℕ → ℕ → List (Option Decision)
+-- the rules that facts can fail, but for the grant
+abbrev pub denials : View → Facts → List ℕ → ℕ → List (Option Decision)
 denials view facts permission at =
     denied_unless (nat_lt at facts.exp) G4 ∷
     denied_at G5 (place_failing (pool_enabled view) facts.pools) ∷
@@ -46,49 +41,21 @@ granted_or true = Admit
 granted_or false = Deny G9 0
 
 -- the first rule that the facts fail, or they are admitted
-unfoldable pub facts_decision : View → TokenFacts → List ℕ → List ℕ → ℕ → Decision
+unfoldable pub facts_decision : View → Facts → List ℕ → List ℕ → ℕ → Decision
 facts_decision view facts permission resource at =
     first_failing (denials view facts permission at) (granted_or (granted view.lists facts.who permission resource at))
 
+-- The rule that stands for a fault. Want of memory is no fault of a text.
 abbrev pub fault_decision : GateFault → Decision
+fault_decision fault.Shape = Deny G1 0
 fault_decision fault.Mac = Deny G2 0
 fault_decision fault.Claims = Deny G3 0
-fault_decision _ = Deny G1 0
+fault_decision fault.Memory = Deny G1 0
 
 abbrev pub decided : View → Result Facts GateFault → List ℕ → List ℕ → ℕ → Decision
 decided view (Err f) permission resource at = fault_decision f
-decided view (Ok facts) permission resource at = facts_decision view (token_facts facts) permission resource at
+decided view (Ok facts) permission resource at = facts_decision view facts permission resource at
 
 -- what the text carries decides, with what stands now under the names; no link is looked at
 unfoldable pub carried_decision : View → List ℕ → List ℕ → List ℕ → List ℕ → List ℕ → ℕ → Decision
 carried_decision view key issuer text permission resource at = decided view (carried_of key issuer text) permission resource at
-
--- ---- by links
-
--- why a link isn't admitted: it is expired, the first of its pools or accounts that is switched off, the first of its lists
--- of words that doesn't allow the permission, or no grant
-unfoldable pub first_denial : Content → Chain → List ℕ → ℕ → Decision
-first_denial c chain permission at = first_failing (
-    denied_unless (nat_lt at (exp_of chain)) G4 ∷
-    denied_at G5 (place_failing (pool_enabled c.view) (pools_of chain)) ∷
-    denied_at G6 (place_failing (account_enabled c.view) (accounts_of chain)) ∷
-    denied_at G7 (place_failing (words_allow c.view permission) (scopes_of chain)) ∷ []
-    ) (Deny G9 0)
-
--- a link that admits is admitted, and any other is denied by its first denial
-unfoldable pub link_decision : Content → Chain → List ℕ → List ℕ → ℕ → Decision
-link_decision c chain permission resource at = if admits c chain permission resource at then Admit else first_denial c chain permission at
-
--- ---- a check
-
--- the chain of the link that a token was issued for
-abbrev pub issued_chain : Content → List ℕ → Option Chain
-issued_chain c text = option_and_then (chain c) (issued_link c text)
-
-abbrev pub chain_or_carried : Content → List ℕ → List ℕ → List ℕ → ℕ → Option Chain → Decision
-chain_or_carried c text permission resource at None = carried_decision c.view c.key c.issuer text permission resource at
-chain_or_carried c text permission resource at (Some found) = link_decision c found permission resource at
-
--- a token that was issued is decided by its link, and any other text by what it carries
-unfoldable pub check_decision : Content → List ℕ → List ℕ → List ℕ → ℕ → Decision
-check_decision c text permission resource at = chain_or_carried c text permission resource at (issued_chain c text)

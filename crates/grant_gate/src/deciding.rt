@@ -5,9 +5,9 @@ ghost use Rattle.allow_policy.specs.Granting.{granted as is_granted};
 ghost use Rattle.grant_gate.specs.Decision as decisions;
 
 use crate::decision::{Decision, GateRule};
-use crate::facts::TokenFacts;
 use crate::fault::GateFault;
 use crate::reading::carried;
+use access_token::Facts;
 use allow_policy::{granted, scope_allows};
 use base_types::Items;
 use iam_names::{Account, Permission, PoolName, Resource, ScopeWord, Who};
@@ -31,7 +31,11 @@ pub fn decide(
     ensures { IfOk result (λ decision. decision ≡ decisions.carried_decision view.now.content key.now issuer.now text.now permission.now resource.now at) }
 {
     match carried(alloc, key, issuer, text) {
-        Ok(facts) => decide_facts(alloc, view, &facts, permission, resource, at),
+        Ok(facts) => {
+            let decision = decide_facts(alloc, view, &facts, permission, resource, at);
+            drop(facts);
+            decision
+        }
         Err(GateFault::Shape) => Ok(denied(GateRule::G1)),
         Err(GateFault::Mac) => Ok(denied(GateRule::G2)),
         Err(GateFault::Claims) => Ok(denied(GateRule::G3)),
@@ -49,7 +53,7 @@ fn denied(rule: GateRule) -> Decision
 fn decide_facts(
     alloc: Global,
     view: &View,
-    facts: &TokenFacts,
+    facts: &Facts,
     permission: &Permission,
     resource: &Resource,
     at: u64,
@@ -63,7 +67,7 @@ fn decide_facts(
 }
 
 // The first rule that fails, but for the grant.
-fn denial_of(view: &View, facts: &TokenFacts, permission: &Permission, at: u64) -> Option<Decision>
+fn denial_of(view: &View, facts: &Facts, permission: &Permission, at: u64) -> Option<Decision>
     ensures { result ≡ first_of (decisions.denials view.now.content facts.now permission.now at) }
 {
     if at >= facts.exp {

@@ -1,5 +1,3 @@
-use std::alloc::AllocError;
-
 /// Why a text carries no facts.
 #[derive(Clone, Copy, Debug, PartialEq, Eq)]
 pub enum GateFault {
@@ -10,15 +8,4 @@ pub enum GateFault {
     /// The MAC is right, and the payload isn't the one that is written for facts of their forms.
     Claims,
     Memory,
-}
-
-impl From<AllocError> for GateFault {
-    ghost use Rattle.std.specs.Prelude.{◌≡◌};
-    ghost use Rattle.grant_gate.specs.declared.fault.GateFault.TheVariants.{Memory};
-
-    ghost from_gives = { λ _ fault. fault ≡ Memory };
-
-    fn from(_: AllocError) -> Self {
-        GateFault::Memory
-    }
 }

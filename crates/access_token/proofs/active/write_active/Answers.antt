@@ -4,15 +4,13 @@ use Rattle.serde_json.specs.Written.{has_float, compact_text}
 use Rattle.serde_json.specs.declared.value.Value.{Object}
 use Rattle.serde_json.proofs.Views.{view-Object}
 use Rattle.access_token.specs.Active.{active_data, active_text}
-use Rattle.links.specs.Facts.{facts_of}
-use Rattle.access_token.specs.Payload.{link_chain}
 use Rattle.access_token.proofs.Floats.{active_floatless}
 use Rattle.access_token.proofs.active.write_active.Goals as goal
 
 pub returns : goal.returns
 unfolding active_text
 returns c =
-    let facts = facts_of (link_chain c.args.number c.args.link.now) in
+    let facts = c.args.facts.now in
     let members = c.put_active.new.members in
     let built : view (Object members) ≡ active_data c.args.issuer.now facts = view-Object members ∙ c.in_ok-put_active.ensures in
     let text = c.in_ok-to_string.ensures.text (ap has_float built ∙ active_floatless c.args.issuer.now facts) in

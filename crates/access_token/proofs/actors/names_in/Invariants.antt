@@ -1,6 +1,6 @@
 use Rattle.std.proofs.Common.{◌≡◌, ◌-◌, ◌++◌, option_map}
 use Rattle.serde_json.specs.View.{view}
-use Rattle.access_token.specs.Reading.{names_in}
+use Rattle.access_token.specs.Parts.{names_in}
 use Rattle.access_token.proofs.actors.names_in.Given as goal
 
 abbrev pub invariant-loop-depth : goal.invariant-loop-depth

@@ -3,7 +3,7 @@ use Rattle.std.specs.List.{slice_split}
 use Rattle.serde_json.specs.Find.{as_str}
 use Rattle.serde_json.specs.View.{view}
 use Rattle.access_token.specs.Forms.{are_words}
-use Rattle.access_token.specs.Formed.{formed}
+use Rattle.access_token.specs.Parts.{formed}
 use Rattle.access_token.proofs.Words.{words-few}
 use Rattle.access_token.proofs.scopes.scope_of.Goals as goal
 

@@ -1,7 +1,6 @@
 use Rattle.std.proofs.Common.{◌≡◌, ◌++◌, drop, option_map}
 use Rattle.serde_json.specs.View.{items_view}
-use Rattle.access_token.specs.Reading.{each_item}
-use Rattle.access_token.specs.Formed.{account_in}
+use Rattle.access_token.specs.Parts.{each_item, account_in}
 use Rattle.access_token.proofs.wif.accounts_of_items.Given as goal
 
 abbrev pub invariant-loop-item : goal.invariant-loop-item
