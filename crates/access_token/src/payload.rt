@@ -8,7 +8,7 @@ ghost use Rattle.serde_json.specs.View.{view, members_view};
 ghost use Rattle.iam_names.specs.PoolName.{pool_text};
 ghost use Rattle.iam_names.specs.declared.who.Who.{Who as Whom};
 ghost use Rattle.access_token.specs.Facts.{name_of};
-ghost use Rattle.access_token.specs.Payload.{items, optional, texts, nested, attributes_data, who_data, wif_data, payload_data, payload_text, words_text as joined, last_words};
+ghost use Rattle.access_token.specs.Payload.{items, optional, texts, nested, attributes_data, who_data, wif_data, payload_data, payload_text, words_text as joined, last_words as last_of};
 
 use crate::Facts;
 use base_types::{Items, Text, TextMap};
@@ -200,12 +200,12 @@ pub fn subject_name(alloc: Global, who: &Who) -> Result<Text, AllocError>
 
 /// The words of the last exchange.
 #[tactic(auto, using(crate::proofs::Writing::last_words_at))]
-pub(crate) fn last_scope(alloc: Global, scopes: &[Items<ScopeWord>]) -> Result<Text, AllocError>
-    ensures { IfOk result (λ text. text ≡ joined (last_words scopes.now)) }
+pub fn last_words(scopes: &[Items<ScopeWord>]) -> &[ScopeWord]
+    ensures { result.now ≡ last_of scopes.now }
 {
     match scopes.last() {
-        None => Text::copy_of(alloc, ""),
-        Some(words) => words_text(alloc, words.as_slice()),
+        None => &[],
+        Some(words) => words.as_slice(),
     }
 }
 
@@ -235,7 +235,7 @@ fn put_claims(
     if let Some(actors) = names_value(alloc, "may_act", facts.may_act.as_slice())? {
         serde_json::put(members, alloc, "may_act", actors)?;
     }
-    let scope = last_scope(alloc, facts.scopes.as_slice())?;
+    let scope = words_text(alloc, last_words(facts.scopes.as_slice()))?;
     put_text(alloc, members, "scope", scope.as_str())?;
     put_text(alloc, members, "sub", facts.sub.as_str())?;
     serde_json::put(members, alloc, "wif", wif_value(alloc, facts)?)

@@ -13,7 +13,7 @@ use Rattle.iam_names.specs.declared.pool_name.PoolName.{PoolName}
 use Rattle.iam_names.specs.declared.who.Who.{Who}
 use Rattle.iam_names.specs.declared.who.Who.TheVariants.{Outside, Account}
 use Rattle.access_token.specs.Exact.{AreUtf8, IsExactPool, IsExactWho, IsExact}
-use Rattle.access_token.specs.Forms.{is_facts, is_identity, is_pool, is_who, are_words}
+use Rattle.access_token.specs.Forms.{is_facts, is_identity, is_who, are_words}
 use Rattle.links.specs.Chain.{Kind, Federated, Link, own_at}
 use Rattle.links.specs.Facts.{facts_of, pools_in}
 use Rattle.links.proofs.Good.{IsGoodKind, IsGoodLink}
@@ -67,8 +67,8 @@ pools_exact : (who : Who) → IsExactWho who → AllByRecursion IsExactPool (poo
 pools_exact (Outside pool identity) is = (is.0, tt)
 pools_exact (Account account) is = tt
 
-pools_formed : (who : Who) → is_who who ≡ true → list_all is_pool (pools_in who) ≡ true
-pools_formed (Outside pool identity) is = rw (both (is_pool pool) (is_identity identity) is).0 refl
+pools_formed : (who : Who) → is_who who ≡ true → list_all is_pool_name (pools_in who) ≡ true
+pools_formed (Outside pool identity) is = rw (both (is_pool_name pool) (is_identity identity) is).0 refl
 pools_formed (Account account) is = refl
 
 kind_exact : (issuer : List ℕ) (n : ℕ) (link : Link) (kind : Kind) → n < 2 ^ 32 → IsUtf8 issuer

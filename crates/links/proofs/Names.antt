@@ -16,7 +16,7 @@ use Rattle.iam_names.specs.declared.who.Who.TheVariants.{Outside, Account}
 use Rattle.iam_names.proofs.ReadBackLemmas.{member_of-member_text}
 use Rattle.access_token.specs.Exact.{IsExactPool, IsExactWho}
 use Rattle.access_token.specs.Facts.{name_of}
-use Rattle.access_token.specs.Forms.{is_name, is_single, is_who, is_pool, is_identity}
+use Rattle.access_token.specs.Forms.{is_name, is_single, is_who, is_identity}
 
 both : (a b : Bool) → (a && b) ≡ true → (a ≡ true) × (b ≡ true)
 both true b h = (refl, h)
@@ -33,7 +33,7 @@ text_same (Account account) = refl
 
 member_good : (who : Who) → is_who who ≡ true → is_member (as_member who) ≡ true
 member_good (Outside pool identity) is =
-    let parts = both (is_pool pool) (is_identity identity) is in
+    let parts = both (is_pool_name pool) (is_identity identity) is in
     let subject = both (has_size 1 127 identity.subject) _ parts.1 in
     and_from _ _ parts.0 subject.0
 member_good (Account account) is = is

@@ -8,7 +8,7 @@ ghost use Rattle.links.specs.Facts.{exp_of as expiry, facts_of as facts_in};
 ghost use Rattle.links.specs.State.{chain, token_text};
 
 use crate::State;
-use access_token::{Facts, write_payload};
+use access_token::{Facts, last_words, write_payload};
 use base_types::Text;
 use hmac_jws::sign;
 use iam_names::{PoolName, ScopeWord};
@@ -52,10 +52,7 @@ pub fn words_of(state: &State, number: u32) -> &[ScopeWord]
     requires { number < length state.now.content.links }
     ensures { option_map (λ found. (own found).words) (chain state.now.content number) ≡ Some result.now }
 {
-    match facts_of(state, number).scopes.as_slice().last() {
-        Some(words) => words.as_slice(),
-        None => &[],
-    }
+    last_words(facts_of(state, number).scopes.as_slice())
 }
 
 /// The payload of the link's token.
