@@ -1,4 +1,4 @@
-ghost use Rattle.std.specs.Prelude.{◌≡◌, true, IfOk, IsErrOf, codes, option_and_then};
+ghost use Rattle.std.specs.Prelude.{◌≡◌, true, IfOk, IfErr, IsErrOf, IsOkAnd, codes, option_and_then, option_map};
 ghost use Rattle.serde_json.specs.View.{view};
 ghost use Rattle.json_text.specs.Document.{text_at as text_member};
 ghost use Rattle.service_config.specs.Configuration.{IsConfiguration, Reads, config_of, start_at, start_of, key_of, issuer_of, secret_of, is_secret as secret_form};
@@ -14,7 +14,7 @@ use base64::engine::general_purpose::URL_SAFE_NO_PAD;
 use iam_names::{NameError, PoolName, ProviderId};
 use json_text::{DocumentFault, read_document, text_at};
 use serde_json::Value;
-use std::alloc::Global;
+use std::alloc::{AllocError, Global};
 
 const CONFIG_LIMIT: usize = 65536;
 
@@ -41,17 +41,61 @@ fn config_from(alloc: Global, json: &Value) -> Result<Config, ConfigError>
     ensures formed { IfOk result IsFormedConfig }
 {
     let issuer = issuer_at(json)?;
-    let key = key_at(alloc, json)?;
     let admin = secret_at(json, "admin")?;
     let gate = secret_at(json, "gate")?;
-    let start = start_from(alloc, json)?;
-    Ok(Config {
-        issuer: Text::copy_of(alloc, issuer)?,
-        key,
-        admin: Text::copy_of(alloc, admin)?,
-        gate: Text::copy_of(alloc, gate)?,
-        start,
+    let key = key_at(alloc, json)?;
+    match start_from(alloc, json) {
+        Ok(start) => assembled(texts(alloc, issuer, admin, gate), key, start),
+        Err(fault) => {
+            drop(key);
+            Err(fault)
+        }
+    }
+}
+
+// The issuer and the secrets.
+#[derive(Debug, Drop)]
+struct Texts {
+    issuer: Text,
+    admin: Text,
+    gate: Text,
+}
+
+fn texts(alloc: Global, issuer: &str, admin: &str, gate: &str) -> Result<Texts, AllocError>
+    ensures { IfOk result (λ texts. texts ≡ record { issuer = issuer.now; admin = admin.now; gate = gate.now }) }
+{
+    let issuer = Text::copy_of(alloc, issuer)?;
+    let admin = Text::copy_of(alloc, admin)?;
+    let gate = Text::copy_of(alloc, gate)?;
+    Ok(Texts {
+        issuer,
+        admin,
+        gate,
     })
+}
+
+fn assembled(
+    texts: Result<Texts, AllocError>,
+    key: Key,
+    start: Option<StartProvider>,
+) -> Result<Config, ConfigError>
+    ensures config { IfOk result (λ config. IsOkAnd texts (λ found. config ≡ record { issuer = found.issuer; key = key; admin = found.admin; gate = found.gate; start = start })) }
+    ensures memory { IfErr result (λ fault. fault ≡ ConfigError.Memory) }
+{
+    match texts {
+        Ok(texts) => Ok(Config {
+            issuer: texts.issuer,
+            key,
+            admin: texts.admin,
+            gate: texts.gate,
+            start,
+        }),
+        Err(AllocError) => {
+            drop(key);
+            drop(start);
+            Err(ConfigError::Memory)
+        }
+    }
 }
 
 fn start_from(alloc: Global, json: &Value) -> Result<Option<StartProvider>, ConfigError>
@@ -71,16 +115,40 @@ fn provider_from(alloc: Global, json: &Value) -> Result<StartProvider, ConfigErr
 {
     let project = member(json, "project")?;
     let pool = member(json, "pool")?;
-    let pool = pool_from(alloc, project, pool)?;
-    let id = provider_id(alloc, member(json, "provider")?)?;
+    let id = member(json, "provider")?;
     let issuer = issuer_at(json)?;
+    let pool = pool_from(alloc, project, pool)?;
+    match provider_in(alloc, id, issuer, json) {
+        Ok(own) => Ok(StartProvider {
+            pool,
+            id: own.id,
+            issuer: own.issuer,
+            key: own.key,
+        }),
+        Err(fault) => {
+            drop(pool);
+            Err(fault)
+        }
+    }
+}
+
+// A provider's own parts, beside its pool.
+#[derive(Debug, Drop)]
+struct Own {
+    id: ProviderId,
+    issuer: Text,
+    key: Key,
+}
+
+fn provider_in(alloc: Global, id: &str, issuer: &str, json: &Value) -> Result<Own, ConfigError>
+    ensures read { Reads (λ own. own) result (option_and_then (λ name. option_map (λ key. record { id = name; issuer = issuer.now; key = key })
+        (option_and_then key_of (text_member (codes "key") (view json.now)))) (passing is_id id.now)) }
+    ensures id { IfOk result (λ own. is_id own.id ≡ true) }
+{
+    let id = provider_id(alloc, id)?;
     let key = key_at(alloc, json)?;
-    Ok(StartProvider {
-        pool,
-        id,
-        issuer: Text::copy_of(alloc, issuer)?,
-        key,
-    })
+    let issuer = Text::copy_of(alloc, issuer)?;
+    Ok(Own { id, issuer, key })
 }
 
 fn pool_from(alloc: Global, project: &str, pool: &str) -> Result<PoolName, ConfigError>

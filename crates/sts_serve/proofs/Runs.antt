@@ -169,6 +169,7 @@ module _ (config : Config) (before : List Entry) (left taken : Option (List ℕ)
         rest = carry.unused;
         script = so_far.script;
         answered = length so_far.frames;
+        within = omega arith;
         output = whole.0;
         recorded = length so_far.frames;
         cut = λ other. whole.1;
@@ -207,6 +208,7 @@ module _ (config : Config) (before : List Entry) (left taken : Option (List ℕ)
           each = all-push frames frame so_far.script.each is;
         };
         answered = length frames;
+        within = omega (arith, length-append frames (frame ∷ []));
         output = within.0;
         recorded = recorded;
         cut = λ other. within.1 ∙ uncut other;

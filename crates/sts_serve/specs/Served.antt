@@ -42,6 +42,7 @@ pub record ScriptRun (config : Config) (before after : List Entry) (left left' t
   pub script : ScriptBegins read frames rest
   -- the output is the replies to the first of them, so many, and a proper part of the next reply
   pub answered : ℕ
+  pub within : answered ≤ length frames
   pub output : OutputIs (reply_frames (replies_of (answer config) before frames)) answered written
   -- the journal has the entries of the requests answered whole, or of one more; a reply is begun only behind its entry
   pub recorded : ℕ
