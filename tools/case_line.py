@@ -12,7 +12,7 @@ def escaped(data):
 
 
 def main(words):
-    for line in sys.stdin.buffer.read().splitlines():
+    for line in sys.stdin.buffer.read().removesuffix(b'\n').split(b'\n'):
         parts = line.split(b'\t') if words else [line]
         print('\t'.join(words + [escaped(part) for part in parts]))
 
