@@ -324,6 +324,119 @@ check('G3', access(compact(dict(reversed(facts().items())))))
 check('G3', access(compact(facts())[:-1] + f',"exp":{AT + 900}}}'))
 check('G3', access(compact(facts()).replace('"pool":"1', '"pool":"\\u0031')))
 
+# Payloads under the service's key with one change each: one that the service would write is decided, and any other is G3.
+ACCOUNT_NAME = 'a@p.iam.gserviceaccount.com'
+
+
+def of_account(scopes=('read',), scope=None, **changes):
+    return facts(exp=9, iat=3, jti='7', scope=scopes[-1] if scope is None else scope, sub='serviceAccount:' + ACCOUNT_NAME,
+                 wif={'pools': [], 'scopes': list(scopes), 'who': {'account': ACCOUNT_NAME}}, **changes)
+
+
+def of_subject(subject='s', **who):
+    inner = dict({'attributes': {}, 'groups': [], 'pool': '1/pool', 'subject': subject}, **who)
+    path = 'principal://iam.googleapis.com/projects/1/locations/global/workloadIdentityPools/pool/subject/'
+    return facts(exp=9, iat=3, jti='7', scope='read', sub=path + subject, wif={'pools': ['1/pool'], 'scopes': ['read'], 'who': inner})
+
+
+def decided(want, payload):
+    check(want, access(payload), at=5)
+
+
+def edits(payload, changes):
+    text = compact(payload)
+    for want, old, new in changes:
+        if old not in text:
+            raise ValueError(old)
+        decided(want, text.replace(old, new, 1))
+
+
+for payload in ('', '{', '[]', 'null'):
+    decided('G3', payload)
+decided('G7 0', of_account())
+decided('G5 0', of_subject())
+decided('G5 0', of_subject('Zo\u00eb', groups=['one', 'two'], attributes={'area': 'x', 'team': 'a\tb', 'zone': '7'}))
+PRINCIPAL = f'principal://{PATH}/subject/s'
+for count, want in [(8, 'G7 0'), (9, 'G3')]:
+    decided(want, of_account(act=nested('act', ['serviceAccount:' + ACCOUNT_NAME] * count)))
+    decided(want, of_account(may_act=nested('may_act', ['x'] * count)))
+for want, actor in [('G7 0', PRINCIPAL), ('G3', f'principalSet://{PATH}/group/g'), ('G3', 'a')]:
+    decided(want, of_account(act={'sub': actor}))
+decided('G3', of_account(may_act={'sub': ''}))
+decided('G3', of_account(act={'iss': 'x', 'sub': 'serviceAccount:' + ACCOUNT_NAME}))
+SIXTEEN = 'a b c d e f g h i j k l m n o p'
+for want, scopes in [('G7 0', [SIXTEEN]), ('G3', [SIXTEEN + ' q']), ('G3', [SIXTEEN + ' q', 'a']), ('G3', ['a  b']), ('G3', ['']),
+                     ('G7 0', ['w' * 128]), ('G3', ['w' * 129])]:
+    decided(want, of_account(scopes))
+decided('G3', of_account((), scope=''))
+decided('G3', of_account(('read write', 'write'), scope='read write'))
+edits(of_account(), [
+    ('G3', '9,', '9, '),  # a blank between members
+    ('G3', '}}}', '}}} '),  # a blank behind the text
+    ('G3', 'bounds":', 'bounds":\n'),  # a line break inside wif
+    ('G3', 'exp":9,"iat":3', 'iat":3,"exp":9'),  # another order
+    ('G3', 'accounts":[],"bounds', 'bounds":[],"accounts'),  # another order inside wif
+    ('G3', '9,"iat', '9,"exp":9,"iat'),  # a member twice
+    ('G3', 'exp":9', 'exp":8,"exp":9'),  # a member twice, the first of them another
+    ('G3', 'exp":9,"iat', 'iat'),  # no exp
+    ('G3', 'iat":3,"iss', 'iss'),  # no iat
+    ('G3', 'iss":"https://sts.example","jti', 'jti'),  # no iss
+    ('G3', 'jti":"7","scope', 'scope'),  # no jti
+    ('G3', 'scope":"read","sub', 'sub'),  # no scope
+    ('G3', 'sub":"serviceAccount:a@p.iam.gserviceaccount.com","wif', 'wif'),  # no sub
+    ('G3', 'accounts":[],"bounds', 'bounds'),  # no accounts
+    ('G3', 'bounds":[],"pools', 'pools'),  # no bounds
+    ('G3', 'pools":[],"scopes', 'scopes'),  # no pools
+    ('G3', 'scopes":["read"],"who', 'who'),  # no scopes
+    ('G3', ',"who":{"account":"a@p.iam.gserviceaccount.com"}', ''),  # no who
+    ('G3', ',"wif":{"accounts":[],"bounds":[],"pools":[],"scopes":["read"],"who":{"account":"a@p.iam.gserviceaccount.com"}}', ''),  # no wif
+    ('G3', '7","scope', '7","kid":"k","scope'),  # a member more
+    ('G3', 'who":{"account', 'who":{"aaa":1,"account'),  # a member more inside who
+    ('G3', 'serviceAccount:a', 'serviceAccount:b'),  # a name of another subject
+    ('G7 0', '9', '9007199254740991'),  # exp 2^53 - 1
+    ('G3', '9', '9007199254740992'),  # exp 2^53
+    ('G7 0', '3', '9007199254740991'),  # iat 2^53 - 1
+    ('G3', '3', '9007199254740992'),  # iat 2^53
+    ('G3', 'exp":9', 'exp":-9'),  # exp below 0
+    ('G3', '9', '9.0'),  # exp with a fraction
+    ('G3', '9', '9e0'),  # exp with an exponent
+    ('G3', '9', '"9"'),  # exp as a text
+    ('G3', 'example', 'exampla'),  # another issuer
+    ('G3', 'bounds":[', 'bounds":[[]'),  # a boundary
+    ('G3', 'bounds":[]', 'bounds":null'),  # bounds null
+    ('G7 0', '7', '0'),  # jti 0
+    ('G3', '7', '00'),  # jti 00
+    ('G3', 'jti":"7', 'jti":"07'),  # jti 07
+    ('G3', '7', '4294967296'),  # jti 2^32
+    ('G3', 'jti":"7', 'jti":"+7'),  # jti with a sign
+    ('G3', '7', 'a'),  # jti with a letter
+    ('G3', '7', ''),  # jti empty
+    ('G3', '"7"', '7'),  # jti a number
+    ('G3', ':"a', ':"\\u0061'),  # a letter escaped
+    ('G3', 'https:/', 'https:\\/\\'),  # a slash escaped
+    ('G3', 'accounts":[', 'accounts":["a@p"'),  # an account of another form on the way
+    ('G3', 'pools":[', 'pools":["01/pool"'),  # a pool of another form
+])
+decided('G5 0', of_subject('s' * 127))
+decided('G3', of_subject('s' * 128))
+edits(of_subject(), [
+    ('G3', 'groups":[', 'groups":[""'),  # an empty group
+    ('G3', 'attributes":{', 'attributes":{"Team":"x"'),  # an attribute name with a capital
+    ('G3', 'attributes":{', 'attributes":{"team":""'),  # an empty attribute value
+    ('G3', 'attributes":{', 'attributes":{"b":"2","a":"1"'),  # attributes in another order
+    ('G3', 'who":{"attributes', 'who":{"account":"a@p.iam.gserviceaccount.com","attributes'),  # both an account and a subject
+])
+
+# Texts by their shape and their MAC, over that payload.
+PLAIN = access(of_account())
+check('G7 0', access(of_account(), '{ "typ": "JWT", "alg": "HS256" }'), at=5)
+check('G3', access(compact(of_account()).replace('9,', ' 9,', 1), '{"alg":"HS256"}'), at=5)
+check('G1', access(of_account(), '{"typ":"JWT"}'), at=5)
+check('G1', PLAIN + '=', at=5)
+check('G1', PLAIN.rpartition('.')[0], at=5)
+check('G1', PLAIN + '.', at=5)
+check('G2', access(dict(of_account(), exp=10)).rpartition('.')[0] + '.' + PLAIN.rpartition('.')[2], at=5)
+
 # What is put again changes the next answer: scope words, roles, policies, pools.
 for number, permissions, want in [(20, [], 'G7 0'), (21, ['a.b.c'], 'G7 0'), (22, ['a.b.c', GET], 'allowed'), (23, '*', 'allowed')]:
     admin(f'entry {number}', {'kind': 'scope', 'scope': EVERY, 'permissions': permissions})

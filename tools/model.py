@@ -336,8 +336,7 @@ class Service:
                 and all(has_form(pool, 'pool name') for pool in wif['pools'])
                 and wif['scopes'] != [] and all(has_form(words, 'scopes') for words in wif['scopes']) and facts['scope'] == wif['scopes'][-1]
                 and facts['sub'] == name_of(wif['who'])
-                and ('act' not in facts or chain(facts['act'], 'act', 8, is_principal) is not None)
-                and ('may_act' not in facts or chain(facts['may_act'], 'may_act', 8, is_actor) is not None))
+                and are_actors(facts, 'act', is_principal) and are_actors(facts, 'may_act', is_actor))
 
     def grants(self, who, permission, resource):
         for upper, bindings in self.policies.items():
@@ -393,6 +392,14 @@ def are_bindings(value):
     return isinstance(value, list) and len(value) <= 64 and all(
         isinstance(one, dict) and has_form(one.get('role'), 'role') and isinstance(one.get('members'), list)
         and len(one['members']) <= 64 and all(read_member(member) is not None for member in one['members']) for one in value)
+
+
+def are_actors(facts, name, is_text):
+    """Whether the member, if there, is actors inside one another and nothing more."""
+    if name not in facts:
+        return True
+    found = chain(facts[name], name, 8, is_text)
+    return found is not None and nested(name, found) == facts[name]
 
 
 def is_principal(text):

@@ -61,15 +61,18 @@ pub(crate) fn claims(alloc: Global, inputs: &Inputs) -> Result<String, AllocErro
     }
 }
 
+fn word(when: When) -> &'static str {
+    match when {
+        When::Live => "live",
+        When::Expired => "expired",
+        When::NotYet => "not yet",
+    }
+}
+
 /// `timing PAYLOAD MOMENT`: how its claims stand to the moment.
 pub(crate) fn timed(alloc: Global, inputs: &Inputs) -> Result<String, AllocError> {
-    let word = match read_claims(alloc, inputs.bytes(0)) {
-        Ok(claims) => match timing(&claims, inputs.number(1)) {
-            When::Live => "live",
-            When::Expired => "expired",
-            When::NotYet => "not yet",
-        },
-        Err(_) => "no claims",
-    };
-    word.to_owned(alloc)
+    match read_claims(alloc, inputs.bytes(0)) {
+        Ok(claims) => word(timing(&claims, inputs.number(1))).to_owned(alloc),
+        Err(_) => "no claims".to_owned(alloc),
+    }
 }
