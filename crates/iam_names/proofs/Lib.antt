@@ -1,4 +1,5 @@
 pub mod AccountLemmas
 pub mod CutLemmas
+pub mod JoinedLemmas
 pub mod PrintedLemmas
 pub mod ReadBackLemmas

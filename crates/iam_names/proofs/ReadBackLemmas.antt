@@ -18,7 +18,7 @@ use Rattle.iam_names.proofs.AccountLemmas.{both}
 use Rattle.iam_names.proofs.CutLemmas.{lacks, after-append, cut_at-append}
 use Rattle.iam_names.proofs.PrintedLemmas.{path_regroup}
 
-implied : (p q : ℕ → Bool) → ((x : ℕ) → p x ≡ true → q x ≡ true) → (text : List ℕ) → list_all p text ≡ true → list_all q text ≡ true
+pub implied : (p q : ℕ → Bool) → ((x : ℕ) → p x ≡ true → q x ≡ true) → (text : List ℕ) → list_all p text ≡ true → list_all q text ≡ true
 implied p q h [] all = refl
 implied p q h (x ∷ text) all =
     let parts = both (p x) (list_all p text) all in

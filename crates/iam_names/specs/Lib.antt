@@ -1,6 +1,7 @@
 pub mod Audience
 pub mod Cuts
 pub mod Forms
+pub mod Joined
 pub mod Member
 pub mod Parts
 pub mod PoolName

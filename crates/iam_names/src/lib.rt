@@ -24,7 +24,7 @@ pub use forms::{
     ScopeWord, ScopeWordForm,
 };
 pub use identity::Identity;
-pub use laws::printed_names_read_back;
+pub use laws::{names_are_their_parts, printed_names_read_back};
 pub use member::{Member, names_who};
 pub use name::{Form, Name};
 pub use pool_name::PoolName;
