@@ -7,3 +7,4 @@ pub mod Walked
 pub mod Pushed
 pub mod Kept
 pub mod Placed
+mod Broken

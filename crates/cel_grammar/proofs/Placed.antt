@@ -13,7 +13,8 @@ use Rattle.cel_grammar.specs.declared.error.ParseError.TheVariants.{Fault, Memor
 use Rattle.cel_grammar.specs.Grammar.{TokensSpell, CanBegin}
 use Rattle.cel_grammar.specs.Machine.{start}
 use Rattle.cel_grammar.specs.Faults.{Breaks, kinds, head, SpellsDraft, BreaksAt, EndsEarly, HasFault, HasNoFault, rank, ComesFirst, IsFirstFault, IsErrorOf, IsDraftOf}
-use Rattle.cel_grammar.specs.Walk.{BreaksFirst, BreaksNone, IsFirstBreak, IsClean, Verdict, spelt, broken, unended, Says}
+use Rattle.cel_grammar.specs.Walk.{Verdict, spelt, broken, unended}
+use Rattle.cel_grammar.proofs.Broken.{BreaksFirst, BreaksNone, IsFirstBreak, IsClean, Says}
 use Rattle.cel_grammar.specs.Answer.{place_of, answer, Gives}
 use Rattle.cel_grammar.proofs.Completed.{can_begin}
 use Rattle.cel_grammar.proofs.Walked.{unique}

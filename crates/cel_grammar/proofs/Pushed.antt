@@ -54,10 +54,3 @@ due_none l old new top = (top.1 ∙ sym top.0, subst (λ st. Stays l st) (sym to
 pub top_of : (old new : List Frame) (o : Option Frame) → MatchOption o ((old ≡ []) × (new ≡ [])) (λ last. old ≡ new ++ last ∷ []) → IsTop old new o
 top_of old new None h = (ap stack_of h.0, ap stack_of h.1)
 top_of old new (Some f) h = top_some old new f h
-
--- a bracket closes expressions, of which the last was added before
-pub closes_many : (r : Result (Option Place) AllocError) (old new : List Frame) (b : Bracket) (f : Frame) (m : Many) (items more : List Draft) (e : Draft) → stack_of old ≡ f ∷ stack_of new → f ≡ Several m items → more ≡ items ++ e ∷ [] →
-    IfOk r (λ o. next_of o new ≡ same b (all_closer m) (Some (after (Last.Whole (all m more)) (stack_of new)))) → IfOk r (λ o. next_of o new ≡ closed_by b e (stack_of old))
-closes_many (Ok o) old new b f m items more e stack is added h =
-    h ∙ ap (λ es. same b (all_closer m) (Some (after (Last.Whole (all m es)) (stack_of new)))) added ∙ ap (λ g. closed_by b e (g ∷ stack_of new)) (sym is) ∙ ap (closed_by b e) (sym stack)
-closes_many (Err x) old new b f m items more e stack is added h = tt

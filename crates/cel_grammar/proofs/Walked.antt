@@ -9,7 +9,8 @@ use Rattle.cel_grammar.specs.Grammar.{TokensSpell, CanBegin}
 use Rattle.cel_grammar.specs.Machine.{State, operand, dotted, after, step, go_on, run, ended, start}
 use Rattle.cel_grammar.specs.declared.error.SyntaxRule.{SyntaxRule}
 use Rattle.cel_grammar.specs.Faults.{open_after, EndsInSign, Extends, IsOutOfRange, Breaks, head}
-use Rattle.cel_grammar.specs.Walk.{BreaksNoLimit, BreaksFirst, BreaksNone, Verdict, extends, is_out, limit, is_operand, is_sign, ended_in, judge, walk, Says}
+use Rattle.cel_grammar.specs.Walk.{Verdict, extends, is_out, limit, is_sign, ended_in, judge, walk}
+use Rattle.cel_grammar.proofs.Broken.{BreaksNoLimit, BreaksFirst, BreaksNone, is_operand, Says}
 use Rattle.cel_grammar.proofs.Stack.{from_true, from_false}
 use Rattle.cel_grammar.proofs.Taken.{accepted}
 use Rattle.cel_grammar.proofs.Read.{spelled}

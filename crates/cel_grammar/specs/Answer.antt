@@ -22,11 +22,13 @@ abbrev pub at_end : Option ℕ → ℕ → Result Draft (ℕ × SyntaxRule) → 
 at_end (Some at) size r = Err (at, SyntaxRule.L1)
 at_end None size r = r
 
+-- the tree of the tokens, or the place and the rule of the first fault
 abbrev pub answer : List Lexeme → Option ℕ → ℕ → Verdict → Result Draft (ℕ × SyntaxRule)
 answer ls stop size (broken k rule) = Err (place_of ls k, rule)
 answer ls stop size (spelt e) = at_end stop size (Ok e)
 answer ls stop size unended = at_end stop size (Err (size, SyntaxRule.S1))
 
+-- a result is this answer, unless memory ran out
 abbrev pub Gives : Result Draft ParseError → Result Draft (ℕ × SyntaxRule) → Type 0
 Gives (Ok e) a = a ≡ Ok e
 Gives (Err Memory) a = Unit {0}

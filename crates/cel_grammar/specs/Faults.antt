@@ -28,6 +28,7 @@ Extends (Some Token.Dot) = Unit {0}
 Extends (Some (Token.Open b)) = b ≡ Square
 Extends _ = ⊥
 
+-- no integer holds 2^63 or more, but for 2^63 behind a sign of its own
 abbrev pub IsOutOfRange : List Token → ℕ → Option Token → Type 0
 IsOutOfRange before n next = (2 ^ 63 ≤ n) × (n ≡ 2 ^ 63 → EndsInSign before → Extends next)
 
@@ -43,9 +44,11 @@ Breaks _ before t next = ⊥
 
 -- ---- over texts
 
+-- the tokens without their places
 abbrev pub kinds : List Lexeme → List Token
 kinds ls = map (λ l. l.token) ls
 
+-- the first of the tokens, if there is one
 abbrev pub head : List Token → Option Token
 head [] = None
 head (t ∷ ts) = Some t
@@ -79,6 +82,7 @@ HasFault text SyntaxRule.L1 at = (tokens : List Lexeme) × Lexes 0 text tokens (
 HasFault text SyntaxRule.S1 at = BreaksAt text SyntaxRule.S1 at ⊎ EndsEarly text at
 HasFault text rule at = BreaksAt text rule at
 
+-- the text has no fault at any place
 abbrev pub HasNoFault : List ℕ → Type 0
 HasNoFault text = (rule : SyntaxRule) (at : ℕ) → HasFault text rule at → ⊥
 

@@ -21,6 +21,7 @@ field_of (Token.Name n) = Some n
 field_of (Token.Reserved n) = Some n
 field_of _ = None
 
+-- a pair of a map literal
 abbrev pub pair_of : Draft → Draft → DraftPair
 pair_of k v = record { key = k; value = v }
 
@@ -62,6 +63,7 @@ mutual
     signed : {n : ℕ} {rest : List Token} → Negs (Token.Minus ∷ Token.Integer n ∷ rest) rest (Draft.Int (neg_ℤ (pos n)))
     neg_of : {mid rest : List Token} {e : Draft} → Negs mid rest e → Negs (Token.Minus ∷ mid) rest (draft.Neg e)
 
+  -- a member: an integer alone, or another
   pub data Member : List Token → List Token → Draft → Type 0 where
     integer_alone : {n : ℕ} {rest : List Token} → Member (Token.Integer n ∷ rest) rest (Draft.Int (pos n))
     proper : {from rest : List Token} {e : Draft} → Proper from rest e → Member from rest e

@@ -8,10 +8,12 @@ use Rattle.cel_grammar.specs.declared.frames.Last.{Last}
 use Rattle.cel_grammar.specs.Machine.{State, after}
 use Rattle.cel_grammar.specs.Faults.{Extends}
 
+-- an integer that has a value without a sign
 abbrev pub IsSmall : Last → Type 0
 IsSmall (Last.Integer n) = n < 2 ^ 63
 IsSmall _ = Unit {0}
 
+-- an integer that has a value with the sign before it, if there is one
 abbrev pub IsReady : Last → List Frame → Type 0
 IsReady (Last.Integer n) (Waiting Minus ∷ st) = n ≤ 2 ^ 63
 IsReady (Last.Integer n) st = n < 2 ^ 63

@@ -84,6 +84,7 @@ fn advance(
 {
     let at = lexeme.at;
     if let Some(rule) = limit {
+        drop(place);
         return Err(ParseError::Fault { at, rule });
     }
     match take(alloc, frames, place, &lexeme.token)? {
@@ -108,6 +109,7 @@ fn finish(
 {
     let found = end(alloc, frames, place)?;
     if let Some(at) = stop {
+        drop(found);
         return Err(ParseError::Fault {
             at,
             rule: SyntaxRule::L1,

@@ -1,6 +1,6 @@
 // Reads the tokens of an expression one at a time.
 
-ghost use Rattle.std.specs.Prelude.{◌≡◌, ◌<◌, ◌≤◌, ◌^◌, ℕ, List, [], ◌∷◌, ◌++◌, pos, neg_ℤ, Option, Some, None, IfOk, OnOk};
+ghost use Rattle.std.specs.Prelude.{◌≡◌, ◌<◌, ◌≤◌, ◌^◌, ℕ, List, [], ◌∷◌, ◌++◌, pos, neg_ℤ, Option, Some, None, Ok, IfOk, OnOk};
 ghost use Rattle.cel_tokens.specs.declared.token.Bracket.TheVariants.{Square, Curly};
 ghost use Rattle.cel_grammar.specs.declared.draft.Draft.TheViews as draft;
 ghost use Rattle.cel_grammar.specs.declared.frames.Frame.{Frame as Opened};
@@ -134,6 +134,32 @@ fn put(frames: &mut Items<Frame>, frame: Frame) -> Result<(), AllocError>
     Ok(())
 }
 
+// Puts a frame on, and another inside it.
+fn put_before(frames: &mut Items<Frame>, outer: Frame, inner: Frame) -> Result<(), AllocError>
+    ensures { OnOk result (stack_of frames.new ≡ inner ∷ outer ∷ stack_of frames.old) }
+{
+    match put(frames, outer) {
+        Ok(()) => put(frames, inner),
+        Err(error) => {
+            drop(inner);
+            Err(error)
+        }
+    }
+}
+
+// A value and one that was made beside it, or neither.
+fn with_kept<A: Drop, B: Drop>(value: A, made: Result<B, AllocError>) -> Result<(A, B), AllocError>
+    ensures { IfOk result (λ both. (both.0 ≡ value) × (made ≡ Ok both.1)) }
+{
+    match made {
+        Ok(more) => Ok((value, more)),
+        Err(error) => {
+            drop(value);
+            Err(error)
+        }
+    }
+}
+
 // Takes off what is pending at a level or a stronger one, if that is next.
 fn due(frames: &mut Items<Frame>, weakest: u8) -> Result<Option<Pending>, AllocError>
     ensures { IfOk result (IsTaken weakest frames.old frames.new) }
@@ -223,10 +249,13 @@ fn after_question(frames: &mut Items<Frame>, e: Draft) -> Result<Option<Place>, 
     ensures { IfOk result (λ o. next_of o frames.new ≡ at_question e (stack_of frames.old)) }
 {
     match top(frames) {
-        Some(Frame::Chosen(_)) => Ok(None),
+        Some(Frame::Chosen(c)) => {
+            drop(c);
+            drop(e);
+            Ok(None)
+        }
         Some(frame) => {
-            put(frames, frame)?;
-            put(frames, Frame::Chosen(e))?;
+            put_before(frames, frame, Frame::Chosen(e))?;
             Ok(Some(Place::Operand))
         }
         None => {
@@ -250,10 +279,14 @@ fn after_colon(frames: &mut Items<Frame>, e: Draft) -> Result<Option<Place>, All
             Ok(Some(Place::Operand))
         }
         Some(frame) => {
-            put(frames, frame)?;
+            drop(frame);
+            drop(e);
             Ok(None)
         }
-        None => Ok(None),
+        None => {
+            drop(e);
+            Ok(None)
+        }
     }
 }
 
@@ -283,7 +316,8 @@ fn after_comma(frames: &mut Items<Frame>, e: Draft) -> Result<Option<Place>, All
 {
     match top(frames) {
         Some(Frame::Several(many, items)) => {
-            put(frames, Frame::Several(many, with_item(items, e)?))?;
+            let (many, items) = with_kept(many, with_item(items, e))?;
+            put(frames, Frame::Several(many, items))?;
             Ok(Some(Place::Operand))
         }
         Some(Frame::Value(pairs, key)) => {
@@ -291,10 +325,14 @@ fn after_comma(frames: &mut Items<Frame>, e: Draft) -> Result<Option<Place>, All
             Ok(Some(Place::Operand))
         }
         Some(frame) => {
-            put(frames, frame)?;
+            drop(frame);
+            drop(e);
             Ok(None)
         }
-        None => Ok(None),
+        None => {
+            drop(e);
+            Ok(None)
+        }
     }
 }
 
@@ -310,6 +348,8 @@ fn close_single(
     if bracket == single_closer(&single) {
         Ok(Some(Place::After(Last::Whole(enclosed(alloc, single, e)?))))
     } else {
+        drop(single);
+        drop(e);
         Ok(None)
     }
 }
@@ -326,7 +366,28 @@ fn close_many(
     if bracket == many_closer(&many) {
         Ok(Some(Place::After(Last::Whole(listed(alloc, many, items)?))))
     } else {
+        drop(many);
+        drop(items);
         Ok(None)
+    }
+}
+
+// A bracket closes expressions, of which this is the last.
+fn close_several(
+    alloc: Global,
+    many: Many,
+    items: Items<Draft>,
+    last: Draft,
+    bracket: Bracket,
+) -> Result<Option<Place>, AllocError>
+    ensures { (fs : List Opened) → IfOk result (λ o. next_of o fs ≡ same bracket (all_closer many) (Some (after (Last.Whole (all many (items ++ last ∷ []))) (stack_of fs)))) }
+{
+    match with_item(items, last) {
+        Ok(items) => close_many(alloc, many, items, bracket),
+        Err(error) => {
+            drop(many);
+            Err(error)
+        }
     }
 }
 
@@ -337,6 +398,7 @@ fn close_map(pairs: Items<DraftPair>, bracket: Bracket) -> Option<Place>
     if bracket == Bracket::Curly {
         Some(Place::After(Last::Whole(Draft::Map(pairs))))
     } else {
+        drop(pairs);
         None
     }
 }
@@ -352,15 +414,17 @@ fn after_closer(
 {
     match top(frames) {
         Some(Frame::One(single)) => close_single(alloc, single, bracket, e),
-        Some(Frame::Several(many, items)) => {
-            close_many(alloc, many, with_item(items, e)?, bracket)
-        }
+        Some(Frame::Several(many, items)) => close_several(alloc, many, items, e, bracket),
         Some(Frame::Value(pairs, key)) => Ok(close_map(with_pair(pairs, key, e)?, bracket)),
         Some(frame) => {
-            put(frames, frame)?;
+            drop(frame);
+            drop(e);
             Ok(None)
         }
-        None => Ok(None),
+        None => {
+            drop(e);
+            Ok(None)
+        }
     }
 }
 
@@ -397,12 +461,14 @@ fn close_empty(
             if may_close(&many, &items) {
                 close_many(alloc, many, items, bracket)
             } else {
+                drop(many);
+                drop(items);
                 Ok(None)
             }
         }
         Some(Frame::Key(pairs)) => Ok(close_map(pairs, bracket)),
         Some(frame) => {
-            put(frames, frame)?;
+            drop(frame);
             Ok(None)
         }
         None => Ok(None),
@@ -426,8 +492,7 @@ fn bang(frames: &mut Items<Frame>) -> Result<Option<Place>, AllocError>
     match top(frames) {
         Some(Frame::Waiting(Pending::Minus)) => Ok(None),
         Some(frame) => {
-            put(frames, frame)?;
-            put(frames, Frame::Waiting(Pending::Bang))?;
+            put_before(frames, frame, Frame::Waiting(Pending::Bang))?;
             Ok(Some(Place::Operand))
         }
         None => {
@@ -444,8 +509,7 @@ fn minus(frames: &mut Items<Frame>) -> Result<Option<Place>, AllocError>
     match top(frames) {
         Some(Frame::Waiting(Pending::Bang)) => Ok(None),
         Some(frame) => {
-            put(frames, frame)?;
-            put(frames, Frame::Waiting(Pending::Minus))?;
+            put_before(frames, frame, Frame::Waiting(Pending::Minus))?;
             Ok(Some(Place::Operand))
         }
         None => {
@@ -504,11 +568,14 @@ fn take_field(alloc: Global, e: Draft, token: &Token) -> Result<Option<Place>, A
     ensures { (fs : List Opened) → IfOk result (λ o. next_of o fs ≡ at_dotted (field_of token.now) e (stack_of fs)) }
 {
     match token {
-        Token::Name(name) | Token::Reserved(name) => Ok(Some(Place::After(Last::Field(
-            e,
-            name.copy(alloc)?,
-        )))),
-        _ => Ok(None),
+        Token::Name(name) | Token::Reserved(name) => {
+            let (e, field) = with_kept(e, name.copy(alloc))?;
+            Ok(Some(Place::After(Last::Field(e, field))))
+        }
+        _ => {
+            drop(e);
+            Ok(None)
+        }
     }
 }
 
@@ -528,7 +595,10 @@ fn after_opener(
             put(frames, Frame::One(Single::At(whole_of(alloc, last)?)))?;
             Ok(Some(Place::Operand))
         }
-        Bracket::Curly => Ok(None),
+        Bracket::Curly => {
+            drop(last);
+            Ok(None)
+        }
     }
 }
 
@@ -539,7 +609,11 @@ fn call(alloc: Global, frames: &mut Items<Frame>, last: Last) -> Result<Option<P
     let many = match last {
         Last::Name(name) => Many::Call(name),
         Last::Field(e, name) => Many::Method(e, name),
-        Last::Integer(_) | Last::Whole(_) => return Ok(None),
+        Last::Integer(_) => return Ok(None),
+        Last::Whole(e) => {
+            drop(e);
+            return Ok(None);
+        }
     };
     put(frames, Frame::Several(many, Items::new(alloc)))?;
     Ok(Some(Place::Operand))
@@ -577,7 +651,10 @@ fn take_after(
             after_closer(alloc, frames, *bracket, e)
         }
         Token::Name(_) | Token::Reserved(_) | Token::Integer(_) | Token::Literal(_) | Token::Bang =>
-            Ok(None),
+            {
+                drop(last);
+                Ok(None)
+            }
     }
 }
 
@@ -613,11 +690,16 @@ pub fn end(
             match top(&mut frames) {
                 None => Ok(Some(e)),
                 Some(frame) => {
-                    put(&mut frames, frame)?;
+                    drop(frame);
+                    drop(e);
                     Ok(None)
                 }
             }
         }
-        Place::Operand | Place::Dotted(_) => Ok(None),
+        Place::Dotted(e) => {
+            drop(e);
+            Ok(None)
+        }
+        Place::Operand => Ok(None),
     }
 }

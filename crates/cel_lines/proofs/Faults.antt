@@ -5,10 +5,10 @@ use Rattle.cel_values.specs.declared.expr.Expr.{Expr}
 use Rattle.cel_grammar.specs.declared.draft.Draft.{Draft}
 use Rattle.cel_grammar.specs.declared.error.SyntaxRule.{SyntaxRule}
 use Rattle.cel_grammar.specs.declared.error.SyntaxRule.TheVariants.{S1, S2, S3, S4, S5, S6, L1, L2}
-use Rattle.cel_grammar.specs.Faults.{SpellsDraft, HasNoFault, IsFirstFault, rank}
+use Rattle.cel_grammar.specs.Faults.{SpellsDraft, IsFirstFault, rank}
 use Rattle.cel_syntax.specs.MacroFaults.{faults_of, first_macro_fault}
 use Rattle.cel_syntax.specs.declared.macro_faults.MacroFault.{MacroFault}
-use Rattle.cel_syntax.specs.Parse.{Spells, IsMacroFault, IsFirstSyntaxFault}
+use Rattle.cel_syntax.specs.Parse.{Spells, HasNoSyntaxFault, IsMacroFault, IsFirstSyntaxFault}
 use Rattle.cel_lines.specs.Answers.{Answers, AnswersAsked, AnswersExpression, AreAnswers, asked, syntax_line, tree_line}
 
 -- ---- one first fault
@@ -61,10 +61,10 @@ module _ (one_draft : (text : List ℕ) (a b : Draft) → SpellsDraft text a →
   one_fault text rule other at place (inr fault) (inr fault') = one_macro text rule other at place fault fault'
 
   -- what spells a tree has no fault
-  not_both : (text : List ℕ) (tree : Expr) (rule : SyntaxRule) (at : ℕ) → Spells text tree → HasNoFault text → IsFirstSyntaxFault text rule at → ⊥
-  not_both text tree rule at spells none (inl first) = none rule at first.fault
+  not_both : (text : List ℕ) (tree : Expr) (rule : SyntaxRule) (at : ℕ) → Spells text tree → HasNoSyntaxFault text → IsFirstSyntaxFault text rule at → ⊥
+  not_both text tree rule at spells none (inl first) = none.0 rule at first.fault
   not_both text tree rule at spells none (inr fault) =
-      let same = sym fault.3 ∙ ap (λ (d : Draft). first_macro_fault (faults_of d)) (one_draft text fault.1 spells.0 fault.2 spells.1) ∙ ap first_macro_fault spells.2 in cc same
+      let same = sym fault.3 ∙ ap first_macro_fault (none.1 fault.1 fault.2) in cc same
 
   to_expression : (expression a b : List ℕ) → AnswersExpression expression a → AnswersExpression expression b → a ≡ b
   to_expression expression a b (inl tree) (inl tree') = tree.3 ∙ ap tree_line (one_tree expression tree.0 tree'.0 tree.1 tree'.1) ∙ sym tree'.3

@@ -7,8 +7,7 @@ use Rattle.json_text.specs.Document.{document, text_at}
 use Rattle.cel_values.specs.declared.expr.Expr.{Expr}
 use Rattle.cel_grammar.specs.declared.error.SyntaxRule.{SyntaxRule}
 use Rattle.cel_grammar.specs.declared.error.SyntaxRule.TheVariants.{S1, S2, S3, S4, S5, S6, L1, L2}
-use Rattle.cel_grammar.specs.Faults.{HasNoFault}
-use Rattle.cel_syntax.specs.Parse.{Spells, IsFirstSyntaxFault}
+use Rattle.cel_syntax.specs.Parse.{Spells, HasNoSyntaxFault, IsFirstSyntaxFault}
 use Rattle.cel_syntax.specs.Print.{printed_text}
 
 -- ---- what is asked
@@ -46,7 +45,7 @@ syntax_line at rule = codes "syntax " ++ (decimal at ++ (32 ∷ rule_name rule))
 -- the tree that the expression spells, or its first fault
 abbrev pub AnswersExpression : List ℕ → List ℕ → Type 0
 AnswersExpression expression text =
-    ((tree : Expr) × Spells expression tree × HasNoFault expression × (text ≡ tree_line tree))
+    ((tree : Expr) × Spells expression tree × HasNoSyntaxFault expression × (text ≡ tree_line tree))
     ⊎ ((at : ℕ) × (rule : SyntaxRule) × IsFirstSyntaxFault expression rule at × (text ≡ syntax_line at rule))
 
 abbrev pub AnswersAsked : Option (List ℕ) → List ℕ → Type 0

@@ -12,27 +12,28 @@ use Rattle.cel_grammar.specs.declared.error.SyntaxRule.{SyntaxRule}
 use Rattle.cel_syntax.specs.declared.macro_faults.MacroFault.{MacroFault}
 use Rattle.cel_syntax.specs.declared.macro_faults.Nesting.{Nesting}
 use Rattle.cel_syntax.specs.Macros.{call_tree, method_tree, expanded, pair_expanded}
-use Rattle.cel_syntax.specs.MacroFaults.{Seen, seen_step, seen, pair_seen, all_faults, pair_faults, unless, is_has, is_macro, is_shallow, first_selects, first_names, call_faults, method_faults, inside}
+use Rattle.cel_syntax.specs.MacroFaults.{Seen, seen_step, seen, pair_seen, all_faults, pair_faults, NoFormFault, unless, is_has, is_macro, is_shallow, first_selects, first_names, call_faults, method_faults, inside}
 use Rattle.cel_syntax.proofs.Layers.{expanded-Name, expanded-List, expanded-Map, expanded-Select, expanded-Index, expanded-Call, expanded-Method, expanded-Not, expanded-Neg, expanded-Binary, expanded-Cond, seen-Name, seen-List, seen-Map, seen-Select, seen-Index, seen-Call, seen-Method, seen-Not, seen-Neg, seen-Binary, seen-Cond}
 
--- the parts of a list that is empty
-pub left_empty : {A : Type 0} (xs ys : List A) → xs ++ ys ≡ [] → xs ≡ []
-left_empty [] ys h = refl
-left_empty (x ∷ xs) ys h = cc
+-- the parts of faults of which none is of a form
+pub left_formed : (xs ys : List MacroFault) → NoFormFault (xs ++ ys) → NoFormFault xs
+left_formed [] ys h = tt
+left_formed (x ∷ xs) ys h = (h.0, left_formed xs ys h.1)
 
-pub right_empty : {A : Type 0} (xs ys : List A) → xs ++ ys ≡ [] → ys ≡ []
-right_empty [] ys h = h
-right_empty (x ∷ xs) ys h = cc
+pub right_formed : (xs ys : List MacroFault) → NoFormFault (xs ++ ys) → NoFormFault ys
+right_formed [] ys h = h
+right_formed (x ∷ xs) ys h = right_formed xs ys h.1
 
-pub both_empty : {A : Type 0} {xs ys : List A} → xs ≡ [] → ys ≡ [] → xs ++ ys ≡ []
-both_empty {A} {xs} {ys} h k = ap (λ l. l ++ ys) h ∙ k
+pub both_formed : (xs ys : List MacroFault) → NoFormFault xs → NoFormFault ys → NoFormFault (xs ++ ys)
+both_formed [] ys h k = k
+both_formed (x ∷ xs) ys h k = (h.0, both_formed xs ys h.1 k)
 
--- where the one has no fault, the other has none
+-- where the one has no fault of a form, the other has none
 abbrev pub NoMore : (Nesting → List MacroFault) → (Nesting → List MacroFault) → Type 0
-NoMore f g = (n : Nesting) → f n ≡ [] → g n ≡ []
+NoMore f g = (n : Nesting) → NoFormFault (f n) → NoFormFault (g n)
 
-both_none : {f g a b : Nesting → List MacroFault} → NoMore f g → NoMore a b → NoMore (λ n. f n ++ a n) (λ n. g n ++ b n)
-both_none {f} {g} {a} {b} h k n e = both_empty (h n (left_empty (f n) (a n) e)) (k n (right_empty (f n) (a n) e))
+both_none : (f g a b : Nesting → List MacroFault) → NoMore f g → NoMore a b → NoMore (λ n. f n ++ a n) (λ n. g n ++ b n)
+both_none f g a b h k n e = both_formed (g n) (b n) (h n (left_formed (f n) (a n) e)) (k n (right_formed (f n) (a n) e))
 
 -- the second tree is the first one, but for the places of names
 pub record Alike (d e : Draft) : Type 0 where
@@ -95,11 +96,11 @@ names_alike (d ∷ ds) [] h = absurd h
 names_alike (d ∷ ds) (e ∷ es) h = h.0.names
 
 faults_alike : (ds es : List Draft) → AllAlike ds es → NoMore (all_faults (map seen ds)) (all_faults (map seen es))
-faults_alike [] [] h n k = refl
+faults_alike [] [] h n k = tt
 faults_alike [] (e ∷ es) h n k = absurd h
 faults_alike (d ∷ ds) [] h n k = absurd h
 faults_alike (d ∷ ds) (e ∷ es) h n k =
-    both_empty (h.0.faults n (left_empty ((seen d).faults n) (all_faults (map seen ds) n) k)) (faults_alike ds es h.1 n (right_empty ((seen d).faults n) (all_faults (map seen ds) n) k))
+    both_formed ((seen e).faults n) (all_faults (map seen es) n) (h.0.faults n (left_formed ((seen d).faults n) (all_faults (map seen ds) n) k)) (faults_alike ds es h.1 n (right_formed ((seen d).faults n) (all_faults (map seen ds) n) k))
 
 pair_trees : (ps qs : List DraftPair) → AllPairsAlike ps qs → map pair_expanded qs ≡ map pair_expanded ps
 pair_trees [] [] h = refl
@@ -110,13 +111,13 @@ pair_trees (p ∷ ps) (q ∷ qs) h =
     ap (λ x. x ∷ map pair_expanded qs) one ∙ ap (λ xs. pair_expanded p ∷ xs) (pair_trees ps qs h.1)
 
 pair_faults_alike : (ps qs : List DraftPair) → AllPairsAlike ps qs → NoMore (pair_faults (map pair_seen ps)) (pair_faults (map pair_seen qs))
-pair_faults_alike [] [] h n k = refl
+pair_faults_alike [] [] h n k = tt
 pair_faults_alike [] (q ∷ qs) h n k = absurd h
 pair_faults_alike (p ∷ ps) [] h n k = absurd h
 pair_faults_alike (p ∷ ps) (q ∷ qs) h n k =
-    let front = left_empty (pair_seen p n) (pair_faults (map pair_seen ps) n) k in
-    let back = right_empty (pair_seen p n) (pair_faults (map pair_seen ps) n) k in
-    both_empty (both_none {f = (seen p.key).faults} {g = (seen q.key).faults} {a = (seen p.value).faults} {b = (seen q.value).faults} h.0.key.faults h.0.value.faults n front) (pair_faults_alike ps qs h.1 n back)
+    let front = left_formed (pair_seen p n) (pair_faults (map pair_seen ps) n) k in
+    let back = right_formed (pair_seen p n) (pair_faults (map pair_seen ps) n) k in
+    both_formed (pair_seen q n) (pair_faults (map pair_seen qs) n) (both_none (seen p.key).faults (seen q.key).faults (seen p.value).faults (seen q.value).faults h.0.key.faults h.0.value.faults n front) (pair_faults_alike ps qs h.1 n back)
 
 -- ---- the forms
 
@@ -148,7 +149,7 @@ pub alike-Index : (a b x y : Draft) → Alike a x → Alike b y → Alike (draft
 alike-Index a b x y h k =
     alike (seen_step (Draft-F.Index (seen a) (seen b))) (seen_step (Draft-F.Index (seen x) (seen y)))
     (expanded-Index x y ∙ ap (λ z. expr.Index z (expanded y)) h.tree ∙ ap (λ z. expr.Index (expanded a) z) k.tree ∙ sym (expanded-Index a b)) (seen-Index a b) (seen-Index x y)
-    (record { selects = refl; names = refl; faults = both_none {f = (seen a).faults} {g = (seen x).faults} {a = (seen b).faults} {b = (seen y).faults} h.faults k.faults })
+    (record { selects = refl; names = refl; faults = both_none (seen a).faults (seen x).faults (seen b).faults (seen y).faults h.faults k.faults })
 
 pub alike-Not : (d e : Draft) → Alike d e → Alike (draft.Not d) (draft.Not e)
 alike-Not d e h =
@@ -164,7 +165,7 @@ pub alike-Binary : (op : BinaryOp) (a b x y : Draft) → Alike a x → Alike b y
 alike-Binary op a b x y h k =
     alike (seen_step (Draft-F.Binary op (seen a) (seen b))) (seen_step (Draft-F.Binary op (seen x) (seen y)))
     (expanded-Binary op x y ∙ ap (λ z. expr.Binary op z (expanded y)) h.tree ∙ ap (λ z. expr.Binary op (expanded a) z) k.tree ∙ sym (expanded-Binary op a b)) (seen-Binary op a b) (seen-Binary op x y)
-    (record { selects = refl; names = refl; faults = both_none {f = (seen a).faults} {g = (seen x).faults} {a = (seen b).faults} {b = (seen y).faults} h.faults k.faults })
+    (record { selects = refl; names = refl; faults = both_none (seen a).faults (seen x).faults (seen b).faults (seen y).faults h.faults k.faults })
 
 pub alike-Cond : (c a b z x y : Draft) → Alike c z → Alike a x → Alike b y → Alike (draft.Cond c a b) (draft.Cond z x y)
 alike-Cond c a b z x y g h k =
@@ -175,34 +176,35 @@ alike-Cond c a b z x y g h k =
       selects = refl;
       names = refl;
       faults = λ n e.
-          let back = right_empty ((seen c).faults n) ((seen a).faults n ++ (seen b).faults n) e in
-          both_empty (g.faults n (left_empty ((seen c).faults n) ((seen a).faults n ++ (seen b).faults n) e))
-          (both_empty (h.faults n (left_empty ((seen a).faults n) ((seen b).faults n) back)) (k.faults n (right_empty ((seen a).faults n) ((seen b).faults n) back)));
+          let back = right_formed ((seen c).faults n) ((seen a).faults n ++ (seen b).faults n) e in
+          both_formed ((seen z).faults n) ((seen x).faults n ++ (seen y).faults n) (g.faults n (left_formed ((seen c).faults n) ((seen a).faults n ++ (seen b).faults n) e))
+          (both_formed ((seen x).faults n) ((seen y).faults n) (h.faults n (left_formed ((seen a).faults n) ((seen b).faults n) back)) (k.faults n (right_formed ((seen a).faults n) ((seen b).faults n) back)));
     })
 
 -- ---- calls
 
-unless_moved : (b : Bool) (at place : ℕ) (rule : SyntaxRule) → unless b at rule ≡ [] → unless b place rule ≡ []
-unless_moved true at place rule h = refl
-unless_moved false at place rule h = cc
+unless_moved : (b : Bool) (at place : ℕ) (rule : SyntaxRule) → NoFormFault (unless b at rule) → NoFormFault (unless b place rule)
+unless_moved true at place rule h = tt
+unless_moved false at place rule h = h
 
-call_moved_at : (has selects : Bool) (at place : ℕ) → cond has (unless selects at SyntaxRule.S4) [] ≡ [] → cond has (unless selects place SyntaxRule.S4) [] ≡ []
+call_moved_at : (has selects : Bool) (at place : ℕ) → NoFormFault (cond has (unless selects at SyntaxRule.S4) []) → NoFormFault (cond has (unless selects place SyntaxRule.S4) [])
 call_moved_at true selects at place h = unless_moved selects at place SyntaxRule.S4 h
-call_moved_at false selects at place h = refl
+call_moved_at false selects at place h = tt
 
-call_moved : (n m : Name) (count : ℕ) (selects : Bool) → m.text ≡ n.text → call_faults n count selects ≡ [] → call_faults m count selects ≡ []
+call_moved : (n m : Name) (count : ℕ) (selects : Bool) → m.text ≡ n.text → NoFormFault (call_faults n count selects) → NoFormFault (call_faults m count selects)
 call_moved n m count selects h e =
-    ap (λ t. cond (is_has t count) (unless selects m.at SyntaxRule.S4) []) h ∙ call_moved_at (is_has n.text count) selects n.at m.at e
+    subst (λ t. NoFormFault (cond (is_has t count) (unless selects m.at SyntaxRule.S4) [])) (sym h) (call_moved_at (is_has n.text count) selects n.at m.at e)
 
-method_moved_at : (macro names shallow : Bool) (at place : ℕ) → cond macro (unless names at SyntaxRule.S4 ++ unless shallow at SyntaxRule.S5) [] ≡ [] → cond macro (unless names place SyntaxRule.S4 ++ unless shallow place SyntaxRule.S5) [] ≡ []
+method_moved_at : (macro names shallow : Bool) (at place : ℕ) → NoFormFault (cond macro (unless names at SyntaxRule.S4 ++ unless shallow at SyntaxRule.S5) []) → NoFormFault (cond macro (unless names place SyntaxRule.S4 ++ unless shallow place SyntaxRule.S5) [])
 method_moved_at true names shallow at place h =
-    both_empty (unless_moved names at place SyntaxRule.S4 (left_empty (unless names at SyntaxRule.S4) (unless shallow at SyntaxRule.S5) h))
-    (unless_moved shallow at place SyntaxRule.S5 (right_empty (unless names at SyntaxRule.S4) (unless shallow at SyntaxRule.S5) h))
-method_moved_at false names shallow at place h = refl
+    both_formed (unless names place SyntaxRule.S4) (unless shallow place SyntaxRule.S5)
+    (unless_moved names at place SyntaxRule.S4 (left_formed (unless names at SyntaxRule.S4) (unless shallow at SyntaxRule.S5) h))
+    (unless_moved shallow at place SyntaxRule.S5 (right_formed (unless names at SyntaxRule.S4) (unless shallow at SyntaxRule.S5) h))
+method_moved_at false names shallow at place h = tt
 
-method_moved : (n m : Name) (count : ℕ) (names : Bool) (d : Nesting) → m.text ≡ n.text → method_faults n count names d ≡ [] → method_faults m count names d ≡ []
+method_moved : (n m : Name) (count : ℕ) (names : Bool) (d : Nesting) → m.text ≡ n.text → NoFormFault (method_faults n count names d) → NoFormFault (method_faults m count names d)
 method_moved n m count names d h e =
-    ap (λ t. cond (is_macro t count) (unless names m.at SyntaxRule.S4 ++ unless (is_shallow d) m.at SyntaxRule.S5) []) h ∙ method_moved_at (is_macro n.text count) names (is_shallow d) n.at m.at e
+    subst (λ t. NoFormFault (cond (is_macro t count) (unless names m.at SyntaxRule.S4 ++ unless (is_shallow d) m.at SyntaxRule.S5) [])) (sym h) (method_moved_at (is_macro n.text count) names (is_shallow d) n.at m.at e)
 
 inside_same : (n m : Name) (count : ℕ) (d : Nesting) → m.text ≡ n.text → inside m count d ≡ inside n count d
 inside_same n m count d h = ap (λ t. inside (record { at = 0; text = t }) count d) h
@@ -215,10 +217,11 @@ alike-Call n m ds es h k =
       selects = refl;
       names = refl;
       faults = λ d e.
-          let own = left_empty (call_faults n (length (map seen ds)) (first_selects (map seen ds))) (all_faults (map seen ds) d) e in
+          let own = left_formed (call_faults n (length (map seen ds)) (first_selects (map seen ds))) (all_faults (map seen ds) d) e in
           let moved = call_moved n m (length (map seen ds)) (first_selects (map seen ds)) h own in
-          both_empty (ap (λ l. call_faults m l (first_selects (map seen es))) (lengths_alike ds es k) ∙ ap (λ b. call_faults m (length (map seen ds)) b) (selects_alike ds es k) ∙ moved)
-          (faults_alike ds es k d (right_empty (call_faults n (length (map seen ds)) (first_selects (map seen ds))) (all_faults (map seen ds) d) e));
+          let same = ap (λ l. call_faults m l (first_selects (map seen es))) (lengths_alike ds es k) ∙ ap (λ b. call_faults m (length (map seen ds)) b) (selects_alike ds es k) in
+          both_formed (call_faults m (length (map seen es)) (first_selects (map seen es))) (all_faults (map seen es) d) (subst NoFormFault (sym same) moved)
+          (faults_alike ds es k d (right_formed (call_faults n (length (map seen ds)) (first_selects (map seen ds))) (all_faults (map seen ds) d) e));
     })
 
 pub alike-Method : (a b : Draft) (n m : Name) (ds es : List Draft) → Alike a b → m.text ≡ n.text → AllAlike ds es → Alike (draft.Method a n ds) (draft.Method b m es)
@@ -233,10 +236,13 @@ alike-Method a b n m ds es g h k =
           let count = length (map seen ds) in
           let own = method_faults n count (first_names (map seen ds)) d in
           let parts = all_faults (map seen ds) (inside n count d) in
-          let back = right_empty ((seen a).faults d) (own ++ parts) e in
-          let moved = method_moved n m count (first_names (map seen ds)) d h (left_empty own parts back) in
+          let back = right_formed ((seen a).faults d) (own ++ parts) e in
+          let moved = method_moved n m count (first_names (map seen ds)) d h (left_formed own parts back) in
           let same_inside : inside m (length (map seen es)) d ≡ inside n count d = ap (λ l. inside m l d) (lengths_alike ds es k) ∙ inside_same n m count d h in
-          both_empty (g.faults d (left_empty ((seen a).faults d) (own ++ parts) e))
-          (both_empty (ap (λ l. method_faults m l (first_names (map seen es)) d) (lengths_alike ds es k) ∙ ap (λ b. method_faults m count b d) (names_alike ds es k) ∙ moved)
-          (ap (λ w. all_faults (map seen es) w) same_inside ∙ faults_alike ds es k (inside n count d) (right_empty own parts back)));
+          let same = ap (λ l. method_faults m l (first_names (map seen es)) d) (lengths_alike ds es k) ∙ ap (λ b. method_faults m count b d) (names_alike ds es k) in
+          let other_own = method_faults m (length (map seen es)) (first_names (map seen es)) d in
+          let other_parts = all_faults (map seen es) (inside m (length (map seen es)) d) in
+          both_formed ((seen b).faults d) (other_own ++ other_parts) (g.faults d (left_formed ((seen a).faults d) (own ++ parts) e))
+          (both_formed other_own other_parts (subst NoFormFault (sym same) moved)
+          (subst (λ w. NoFormFault (all_faults (map seen es) w)) (sym same_inside) (faults_alike ds es k (inside n count d) (right_formed own parts back))));
     })

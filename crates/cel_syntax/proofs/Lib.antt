@@ -1,6 +1,7 @@
 pub mod Parsed
 pub mod Separated
 pub mod Layers
+pub mod NegatedLayers
 pub mod Alike
 pub mod Shown
 pub mod Texts

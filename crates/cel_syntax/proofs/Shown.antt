@@ -24,10 +24,10 @@ use Rattle.cel_grammar.specs.declared.error.SyntaxRule.{SyntaxRule}
 use Rattle.cel_syntax.specs.declared.macro_faults.MacroFault.{MacroFault}
 use Rattle.cel_syntax.specs.declared.macro_faults.Nesting.{Nesting}
 use Rattle.cel_syntax.specs.Macros.{kind_of, literal_tree, selection, variable, has_tree, three_tree, two_or_call, call_tree, method_tree, expanded, pair_expanded}
-use Rattle.cel_syntax.specs.MacroFaults.{Seen, seen_step, seen, unless, is_has, is_macro, is_shallow, first_selects, first_names, call_faults, method_faults}
+use Rattle.cel_syntax.specs.MacroFaults.{Seen, seen_step, seen, NoFormFault, unless, is_has, is_macro, is_shallow, first_selects, first_names, call_faults, method_faults}
 use Rattle.cel_syntax.specs.MacroFaults as faults
-use Rattle.cel_syntax.specs.Print.{pair_printed, Printed, printed, whole, boolean, integer_form, listed, texts_listed, method, at_level, called, macro_name, named, grouped_unless, may_be_inverted, may_be_negated, printed_binary, printed_choice, inverse, negative}
-use Rattle.cel_syntax.proofs.Alike.{left_empty}
+use Rattle.cel_syntax.specs.Print.{pair_printed, Printed, printed, whole, boolean, integer_form, listed, texts_listed, method, at_level, called, macro_name, grouped_unless, may_be_inverted, may_be_negated, printed_binary, printed_choice, inverse, negative}
+use Rattle.cel_syntax.proofs.Alike.{left_formed}
 use Rattle.cel_syntax.proofs.Layers.{expanded-Literal, expanded-Int, expanded-Name, expanded-List, expanded-Map, expanded-Select, expanded-Index, expanded-Call, expanded-Method, expanded-Not, expanded-Neg, expanded-Binary, expanded-Cond, printed-Null, printed-Bool, printed-Int, printed-Text, printed-Name, printed-List, printed-Map, printed-Select, printed-Has, printed-Index, printed-function, printed-method, printed-Not, printed-Neg, printed-Binary, printed-Cond, printed-macro, printed-macro_of_three}
 
 abbrev pub shown : Draft → Printed
@@ -135,9 +135,9 @@ a_selection = ind-Draft Selects (λ p. Unit {0}) (λ x y is. selects_at x) (λ x
 a_name : (d : Draft) → Names d
 a_name = ind-Draft Names (λ p. Unit {0}) (λ x y is. names_at x) (λ x y is. tt)
 
-pub unless_true : (b : Bool) (at : ℕ) (rule : SyntaxRule) → unless b at rule ≡ [] → b ≡ true
-unless_true true at rule h = refl
-unless_true false at rule h = cc
+pub unless_true : (b : Bool) (at : ℕ) → NoFormFault (unless b at SyntaxRule.S4) → b ≡ true
+unless_true true at h = refl
+unless_true false at h = absurd (h.0 refl)
 
 same_bytes : (n m : List ℕ) → bytes_eq n m ≡ true → n ≡ m
 same_bytes n m h = grind (arith, bytes_eq-Decides n m)
@@ -162,11 +162,11 @@ has_one true n d is h =
     let s = a_selection d (h refl) in
     ap (λ x. printed (has_tree (expanded x ∷ []))) s.2 ∙ has_selection s.0 s.1 ∙ ap (λ x. whole (called (codes "has") (shown x ∷ []))) (sym s.2) ∙ ap (λ w. whole (called w (shown d ∷ []))) (sym (same_bytes n (codes "has") is))
 
-has_faults : (b selects : Bool) (at : ℕ) → cond b (unless selects at SyntaxRule.S4) [] ≡ [] → b ≡ true → selects ≡ true
-has_faults true selects at h k = unless_true selects at SyntaxRule.S4 h
+has_faults : (b selects : Bool) (at : ℕ) → NoFormFault (cond b (unless selects at SyntaxRule.S4) []) → b ≡ true → selects ≡ true
+has_faults true selects at h k = unless_true selects at h
 has_faults false selects at h k = cc
 
-call_shown : (n : Name) (es : List Draft) → call_faults n (length (map seen es)) (first_selects (map seen es)) ≡ [] → printed (call_tree n.text (map expanded es)) ≡ whole (called n.text (map shown es))
+call_shown : (n : Name) (es : List Draft) → NoFormFault (call_faults n (length (map seen es)) (first_selects (map seen es))) → printed (call_tree n.text (map expanded es)) ≡ whole (called n.text (map shown es))
 call_shown n [] h = printed-function n.text []
 call_shown n (d ∷ []) h = has_one (bytes_eq n.text (codes "has")) n.text d refl (has_faults (bytes_eq n.text (codes "has")) (seen d).selects n.at h)
 call_shown n (d ∷ e ∷ es) h =
@@ -174,7 +174,7 @@ call_shown n (d ∷ e ∷ es) h =
     ap (λ b. printed (cond (b && bytes_eq n.text (codes "has")) (has_tree xs) (expr.Call None n.text xs))) (two_more (length (map expanded es)))
     ∙ printed-function n.text xs ∙ ap (λ ps. whole (called n.text ps)) (map_shown (d ∷ e ∷ es))
 
-pub shown-Call : (n : Name) (es : List Draft) → call_faults n (length (map seen es)) (first_selects (map seen es)) ≡ [] → shown (draft.Call n es) ≡ whole (called n.text (map shown es))
+pub shown-Call : (n : Name) (es : List Draft) → NoFormFault (call_faults n (length (map seen es)) (first_selects (map seen es))) → shown (draft.Call n es) ≡ whole (called n.text (map shown es))
 shown-Call n es h = ap printed (expanded-Call n es) ∙ call_shown n es h
 
 -- ---- methods
@@ -198,7 +198,7 @@ variable_is d v h =
     ap (λ x. variable (out-Expr (expanded x))) h ∙ ap (λ x. variable (out-Expr x)) (expanded-Name v)
     ∙ ap (λ x. variable (out-Expr x)) (sym (tree.rolls-Name v.text)) ∙ ap variable (out-roll-Expr (Expr-F.Name v.text))
 
-name_is : (d : Draft) (v : Name) → d ≡ Draft.Name v → named v.text ≡ shown d
+name_is : (d : Draft) (v : Name) → d ≡ Draft.Name v → whole v.text ≡ shown d
 name_is d v h = sym (shown-Name v) ∙ ap shown (sym h)
 
 two_at : (k : Option MacroKind) (n : List ℕ) (range a b : Draft) → kind_of n ≡ k → (is_some k ≡ true → (seen a).names ≡ true) →
@@ -208,7 +208,7 @@ two_at (Some kind) n range a b is h =
     let s = a_name a (h refl) in
     ap (λ v. printed (expr.Macro kind (expanded range) v None (expanded b))) (variable_is a s.0 s.1)
     ∙ printed-macro kind (expanded range) s.0.text (expanded b)
-    ∙ ap (λ w. whole (method (shown range) (called w (named s.0.text ∷ shown b ∷ [])))) (kind_name n kind is)
+    ∙ ap (λ w. whole (method (shown range) (called w (whole s.0.text ∷ shown b ∷ [])))) (kind_name n kind is)
     ∙ ap (λ p. whole (method (shown range) (called n (p ∷ shown b ∷ [])))) (name_is a s.0 s.1)
 
 three_at : (k : Bool) (n : List ℕ) (range a b c : Draft) → bytes_eq n (codes "map") ≡ k → (k ≡ true → (seen a).names ≡ true) →
@@ -218,17 +218,17 @@ three_at true n range a b c is h =
     let s = a_name a (h refl) in
     ap (λ v. printed (expr.Macro MacroKind.Map (expanded range) v (Some (expanded b)) (expanded c))) (variable_is a s.0 s.1)
     ∙ printed-macro_of_three MacroKind.Map (expanded range) s.0.text (expanded b) (expanded c)
-    ∙ ap (λ w. whole (method (shown range) (called w (named s.0.text ∷ shown b ∷ shown c ∷ [])))) (sym (same_bytes n (codes "map") is))
+    ∙ ap (λ w. whole (method (shown range) (called w (whole s.0.text ∷ shown b ∷ shown c ∷ [])))) (sym (same_bytes n (codes "map") is))
     ∙ ap (λ p. whole (method (shown range) (called n (p ∷ shown b ∷ shown c ∷ [])))) (name_is a s.0 s.1)
 
-macro_faults_names : (b names shallow : Bool) (at : ℕ) → cond b (unless names at SyntaxRule.S4 ++ unless shallow at SyntaxRule.S5) [] ≡ [] → b ≡ true → names ≡ true
-macro_faults_names true names shallow at h k = unless_true names at SyntaxRule.S4 (left_empty (unless names at SyntaxRule.S4) (unless shallow at SyntaxRule.S5) h)
+macro_faults_names : (b names shallow : Bool) (at : ℕ) → NoFormFault (cond b (unless names at SyntaxRule.S4 ++ unless shallow at SyntaxRule.S5) []) → b ≡ true → names ≡ true
+macro_faults_names true names shallow at h k = unless_true names at (left_formed (unless names at SyntaxRule.S4) (unless shallow at SyntaxRule.S5) h)
 macro_faults_names false names shallow at h k = cc
 
 four_more : (n : ℕ) → (nat_eq (suc (suc (suc (suc n)))) 2 ≡ false) × (nat_eq (suc (suc (suc (suc n)))) 3 ≡ false)
 four_more n = (grind (arith, nat_tests), grind (arith, nat_tests))
 
-method_shown : (e : Draft) (n : Name) (es : List Draft) (d : Nesting) → method_faults n (length (map seen es)) (first_names (map seen es)) d ≡ [] →
+method_shown : (e : Draft) (n : Name) (es : List Draft) (d : Nesting) → NoFormFault (method_faults n (length (map seen es)) (first_names (map seen es)) d) →
     printed (method_tree (expanded e) n.text (map expanded es)) ≡ whole (method (shown e) (called n.text (map shown es)))
 method_shown e n [] d h = printed-method (expanded e) n.text []
 method_shown e n (a ∷ []) d h = printed-method (expanded e) n.text (expanded a ∷ [])
@@ -245,6 +245,6 @@ method_shown e n (a ∷ b ∷ c ∷ x ∷ es) d h =
     ∙ ap (λ i. printed (cond (i && bytes_eq n.text (codes "map")) (three_tree (expanded e) xs) call)) more.1
     ∙ printed-method (expanded e) n.text xs ∙ ap (λ ps. whole (method (shown e) (called n.text ps))) (map_shown (a ∷ b ∷ c ∷ x ∷ es))
 
-pub shown-Method : (e : Draft) (n : Name) (es : List Draft) (d : Nesting) → method_faults n (length (map seen es)) (first_names (map seen es)) d ≡ [] →
+pub shown-Method : (e : Draft) (n : Name) (es : List Draft) (d : Nesting) → NoFormFault (method_faults n (length (map seen es)) (first_names (map seen es)) d) →
     shown (draft.Method e n es) ≡ whole (method (shown e) (called n.text (map shown es)))
 shown-Method e n es d h = ap printed (expanded-Method e n es) ∙ method_shown e n es d h

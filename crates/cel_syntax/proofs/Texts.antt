@@ -8,7 +8,8 @@ use Rattle.cel_tokens.specs.declared.token.Name.{Name}
 use Rattle.cel_tokens.specs.declared.token.Token.{Token}
 use Rattle.cel_tokens.specs.FirstWord.{word_at}
 use Rattle.cel_tokens.specs.Lexing.{Lexes}
-use Rattle.cel_tokens.specs.Spelling.{is_name, is_reserved_name, operator, operator_token, stops, begins}
+use Rattle.cel_tokens.specs.Spelling.{operator}
+use Rattle.cel_tokens.proofs.Spellable.{is_name, is_reserved_name, operator_token, stops, begins}
 use Rattle.cel_tokens.proofs.Spelled.{token_before, name_read, reserved_read, operator_read, lexed_token, lexed_space}
 use Rattle.cel_grammar.specs.Faults.{kinds}
 use Rattle.cel_grammar.specs.Grammar.{op_of, field_of}

@@ -18,6 +18,7 @@ kind_of w =
     if bytes_eq w (codes "exists_one") then Some MacroKind.ExistsOne else if bytes_eq w (codes "filter") then Some MacroKind.Filter else
     if bytes_eq w (codes "map") then Some MacroKind.Map else None
 
+-- the expression of a literal
 abbrev pub literal_tree : Literal → Expr
 literal_tree Literal.Null = Expr.Null
 literal_tree (Literal.Bool b) = Expr.Bool b
@@ -28,18 +29,22 @@ abbrev pub selection : Expr-F Expr MapPair → Expr → Expr × List ℕ
 selection (Expr-F.Select e f) x = (e, f)
 selection _ x = (x, [])
 
+-- the name that a macro's variable has
 abbrev pub variable : Expr-F Expr MapPair → List ℕ
 variable (Expr-F.Name n) = n
 variable _ = []
 
+-- the presence test of a selection
 abbrev pub has_tree : List Expr → Expr
 has_tree (e ∷ []) = let s = selection (out-Expr e) e in expr.Has s.0 s.1
 has_tree es = Expr.Null
 
+-- a macro with a variable and one argument more
 abbrev pub two_tree : MacroKind → Expr → List Expr → Expr
 two_tree kind range (x ∷ p ∷ []) = expr.Macro kind range (variable (out-Expr x)) None p
 two_tree kind range es = Expr.Null
 
+-- a `map` with a variable, a condition and a value
 abbrev pub three_tree : Expr → List Expr → Expr
 three_tree range (x ∷ p ∷ v ∷ []) = expr.Macro MacroKind.Map range (variable (out-Expr x)) (Some p) v
 three_tree range es = Expr.Null
@@ -48,6 +53,7 @@ three_tree range es = Expr.Null
 abbrev pub call_tree : List ℕ → List Expr → Expr
 call_tree n es = if nat_eq (length es) 1 && bytes_eq n (codes "has") then has_tree es else expr.Call None n es
 
+-- a macro where the name is that of one, else a call of a method
 abbrev pub two_or_call : Option MacroKind → Expr → List ℕ → List Expr → Expr
 two_or_call (Some kind) range n es = two_tree kind range es
 two_or_call None range n es = expr.Call (Some range) n es
@@ -58,6 +64,7 @@ method_tree range n es =
     if nat_eq (length es) 2 then two_or_call (kind_of n) range n es else
     if nat_eq (length es) 3 && bytes_eq n (codes "map") then three_tree range es else expr.Call (Some range) n es
 
+-- the expression of each form, by those of its parts
 abbrev pub expand_step : Draft-F Expr MapPair → Expr
 expand_step (Draft-F.Literal l) = literal_tree l
 expand_step (Draft-F.Int z) = Expr.Int z
@@ -73,6 +80,7 @@ expand_step (Draft-F.Neg e) = expr.Neg e
 expand_step (Draft-F.Binary op a b) = expr.Binary op a b
 expand_step (Draft-F.Cond c a b) = expr.Cond c a b
 
+-- the pair of two expressions
 abbrev pub pair_step : DraftPair-F Expr MapPair → MapPair
 pair_step p = record { key = p.key; value = p.value }
 
@@ -80,5 +88,6 @@ pair_step p = record { key = p.key; value = p.value }
 abbrev pub expanded : Draft → Expr
 expanded = fold-Draft Expr MapPair expand_step pair_step
 
+-- a pair of a map literal with its macros
 abbrev pub pair_expanded : DraftPair → MapPair
 pair_expanded p = record { key = expanded p.key; value = expanded p.value }

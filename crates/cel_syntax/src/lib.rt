@@ -10,7 +10,7 @@ mod whole;
 pub use cel_grammar::{
     Draft, DraftPair, ParseError, SyntaxRule, one_draft, parse_draft, viable_prefix,
 };
-pub use laws::print_spells;
+pub use laws::{parentheses_are_needed, print_spells};
 pub use macro_faults::{MacroFault, first_fault};
 pub use macros::expand;
 pub use printer::print;

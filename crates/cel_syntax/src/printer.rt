@@ -1,6 +1,7 @@
 ghost use Rattle.std.specs.Prelude.{◌≡◌, ◌+◌, ◌++◌, IfOk, [], OnOk, option_map, codes, map, if◌then◌else◌, string_bytes};
 ghost use Rattle.cel_grammar.specs.Grammar.{strength};
-ghost use Rattle.cel_syntax.specs.Print.{operator as operator_word, macro_name as macro_word, boolean, level, may_be_inverted as stands_behind_bang, may_be_negated as stands_behind_minus, grouped_unless, at_level, listed, texts_listed, called, method, tested, printed, pair_printed, printed_text};
+ghost use Rattle.cel_tokens.specs.Spelling.{operator as operator_word};
+ghost use Rattle.cel_syntax.specs.Print.{macro_name as macro_word, boolean, level, may_be_inverted as stands_behind_bang, may_be_negated as stands_behind_minus, grouped_unless, at_level, listed, texts_listed, called, method, tested, printed, pair_printed, printed_text};
 
 use base_types::{Boxed, Text};
 use cel_grammar::strength_of;

@@ -1,7 +1,6 @@
 ghost use Rattle.std.specs.Prelude.{◌≡◌, ℕ, List, IfOk, IfErr};
 ghost use Rattle.cel_values.specs.declared.expr.Expr.{Expr as Tree};
-ghost use Rattle.cel_grammar.specs.Faults.{HasNoFault};
-ghost use Rattle.cel_syntax.specs.Parse.{Spells, IsSyntaxError, IsExprOf, Finishes};
+ghost use Rattle.cel_syntax.specs.Parse.{Spells, HasNoSyntaxFault, IsSyntaxError, IsExprOf, Finishes};
 
 use crate::macro_faults::first_fault;
 use crate::macros::expand;
@@ -26,9 +25,9 @@ fn with_macros(alloc: Global, draft: &Draft) -> Result<Expr, ParseError>
 /// are looked at where there is no other.
 pub fn parse(alloc: Global, text: &str) -> Result<Expr, ParseError>
     // What is read is spelled so, and the text has no fault.
-    ensures found { IfOk result (λ x. Spells text.now x × HasNoFault text.now) }
+    ensures found { IfOk result (λ x. Spells text.now x × HasNoSyntaxFault text.now) }
     // What a text without fault spells is read, unless memory runs out.
-    ensures only { (x : Tree) → Spells text.now x → HasNoFault text.now → IsExprOf x result }
+    ensures only { (x : Tree) → Spells text.now x → HasNoSyntaxFault text.now → IsExprOf x result }
     // The fault is the first of the text.
     ensures fault { IfErr result (IsSyntaxError text.now) }
 {

@@ -13,7 +13,7 @@ use Rattle.cel_tokens.specs.declared.quoted.Mode.{Mode}
 use Rattle.cel_tokens.specs.declared.quoted.TextKind.{TextKind}
 use Rattle.cel_tokens.specs.Words.{IsFirstWord, form, is_letter, is_digit, is_name_byte, is_quote, is_blank, is_hex, all_bytes, next_move, between, word_token, decimal_token, hex_token, saturated, decimal_number, hex_number, one_sign, two_sign, bracket_sign, mark_sign, is_reserved, is_in_line, closed_at, closed, raw_form, hex_form, letter_form, digit_form, quote_form, sign_form, slash_form, blank_form, as_piece}
 use Rattle.cel_tokens.specs.Lexing.{Lexes, ended, stopped, blank, token}
-use Rattle.cel_tokens.specs.Spelling.{is_word, is_keyword, HasForm}
+use Rattle.cel_tokens.proofs.Spellable.{is_word, is_keyword, HasForm}
 use Rattle.cel_tokens.proofs.Fronts.{either}
 use Rattle.cel_tokens.proofs.Lossy.{IsUtf8-utf8_lossy}
 use Rattle.cel_tokens.proofs.Spelled.{name_or_reserved}

@@ -60,7 +60,7 @@ front_longest p (b ∷ w) r h =
 
 -- ---- between quotes
 
-more_front : (bytes : List ℕ) (o : Option (List ℕ × List ℕ)) (v r : List ℕ) → with_front bytes o ≡ Some (v, r) → (u : List ℕ) × (o ≡ Some (u, r)) × (v ≡ bytes ++ u)
+pub more_front : (bytes : List ℕ) (o : Option (List ℕ × List ℕ)) (v r : List ℕ) → with_front bytes o ≡ Some (v, r) → (u : List ℕ) × (o ≡ Some (u, r)) × (v ≡ bytes ++ u)
 more_front bytes None v r h = cc
 more_front bytes (Some x) v r h =
     let pairs : (bytes ++ x.0, x.1) ≡ (v, r) = cc in

@@ -7,3 +7,6 @@ mod Lossy
 pub mod Spelled
 pub mod Formed
 pub mod Escapes
+mod Pieces
+mod TextForms
+pub mod Spellable

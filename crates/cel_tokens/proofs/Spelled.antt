@@ -19,7 +19,8 @@ use Rattle.cel_tokens.specs.declared.quoted.TextKind.{TextKind}
 use Rattle.cel_tokens.specs.Words.{is_letter, is_digit, is_name_byte, is_quote, is_hex, all_bytes, next_move, between, with_front, word_token, decimal_token, saturated, decimal_number, one_sign, two_sign, is_reserved, is_control_word, is_declaring_word}
 use Rattle.cel_tokens.specs.FirstWord.{word_at, while_front, raw_at, hex_at, name_at, number_at, or_raw, or_hex, letter_at, digit_at, sign_at, piece_of, quoted as text_found, before, or_one}
 use Rattle.cel_tokens.specs.Lexing.{Lexes, blank, token}
-use Rattle.cel_tokens.specs.Spelling.{quoted_byte, quoted_bytes, quoted, is_word, is_keyword, is_name, is_reserved_name, operator, operator_token, is_stop, stops, begins}
+use Rattle.cel_tokens.specs.Spelling.{quoted_byte, quoted_bytes, quoted, operator}
+use Rattle.cel_tokens.proofs.Spellable.{is_word, is_keyword, is_name, is_reserved_name, operator_token, is_stop, stops, begins}
 use Rattle.cel_tokens.proofs.Fronts.{and_parts, chosen, passed}
 use Rattle.cel_tokens.proofs.Longest.{eq_from}
 use Rattle.cel_tokens.proofs.Lexed.{first_of}

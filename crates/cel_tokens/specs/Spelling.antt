@@ -16,6 +16,7 @@ quoted_byte b =
     if nat_eq b 10 then 92 ∷ 110 ∷ [] else if nat_eq b 13 then 92 ∷ 114 ∷ [] else
     if nat_eq b 9 then 92 ∷ 116 ∷ [] else b ∷ []
 
+-- the bytes of a text between double quotes
 abbrev pub quoted_bytes : List ℕ → List ℕ
 quoted_bytes [] = []
 quoted_bytes (b ∷ bs) = quoted_byte b ++ quoted_bytes bs
@@ -24,24 +25,9 @@ quoted_bytes (b ∷ bs) = quoted_byte b ++ quoted_bytes bs
 abbrev pub quoted : List ℕ → List ℕ
 quoted text = 34 ∷ (quoted_bytes text ++ (34 ∷ []))
 
--- ---- words
-
--- letters and digits that begin with a letter
-abbrev pub is_word : List ℕ → Bool
-is_word [] = false
-is_word (b ∷ w) = is_letter b && all_bytes is_name_byte w
-
-abbrev pub is_keyword : List ℕ → Bool
-is_keyword w = bytes_eq w (codes "true") || bytes_eq w (codes "false") || bytes_eq w (codes "null") || bytes_eq w (codes "in")
-
-abbrev pub is_name : List ℕ → Bool
-is_name w = is_word w && not (is_keyword w) && not (is_reserved w)
-
-abbrev pub is_reserved_name : List ℕ → Bool
-is_reserved_name w = is_word w && not (is_keyword w) && is_reserved w
-
 -- ---- operators
 
+-- how an operator of two operands is written
 abbrev pub operator : BinaryOp → List ℕ
 operator Or = codes "||"
 operator And = codes "&&"
@@ -57,33 +43,3 @@ operator Sub = codes "-"
 operator Mul = codes "*"
 operator Div = codes "/"
 operator Rem = codes "%"
-
-abbrev pub operator_token : BinaryOp → Token
-operator_token Sub = Token.Minus
-operator_token op = Token.Sign op
-
--- ---- what stands behind a token
-
--- space ( ) , . : [ ] }
-abbrev pub is_stop : ℕ → Bool
-is_stop b =
-    nat_eq b 32 || nat_eq b 40 || nat_eq b 41 || nat_eq b 44 || nat_eq b 46 || nat_eq b 58 || nat_eq b 91 || nat_eq b 93 || nat_eq b 125
-
--- nothing, or a byte that extends no word
-abbrev pub stops : List ℕ → Bool
-stops [] = true
-stops (b ∷ bs) = is_stop b
-
-abbrev pub begins : ℕ → List ℕ → Bool
-begins c [] = false
-begins c (b ∷ bs) = nat_eq b c
-
--- ---- tokens
-
--- a token that a text can spell
-abbrev pub HasForm : Token → Type 0
-HasForm (Token.Name n) = is_name n.text ≡ true
-HasForm (Token.Reserved n) = is_reserved_name n.text ≡ true
-HasForm (Token.Integer n) = n < 2 ^ 64
-HasForm (Token.Literal (Literal.Text t)) = IsUtf8 t
-HasForm t = ⊤

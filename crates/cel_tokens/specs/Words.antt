@@ -12,27 +12,35 @@ use Rattle.cel_tokens.specs.declared.quoted.Added.{Added}
 use Rattle.cel_tokens.specs.declared.quoted.Move.{Move}
 use Rattle.cel_tokens.specs.declared.quoted.TextKind.{TextKind}
 
+-- a number from one to another
 abbrev pub within : ℕ → ℕ → ℕ → Bool
 within low high b = nat_le low b && nat_le b high
 
+-- 0 to 9
 abbrev pub is_digit : ℕ → Bool
 is_digit b = within 48 57 b
 
+-- A to Z, a to z and `_`
 abbrev pub is_letter : ℕ → Bool
 is_letter b = within 65 90 b || within 97 122 b || nat_eq b 95
 
+-- what may stand in a name behind its first byte
 abbrev pub is_name_byte : ℕ → Bool
 is_name_byte b = is_letter b || is_digit b
 
+-- 0 to 9, A to F and a to f
 abbrev pub is_hex : ℕ → Bool
 is_hex b = is_digit b || within 65 70 b || within 97 102 b
 
+-- a double or a single quote
 abbrev pub is_quote : ℕ → Bool
 is_quote b = nat_eq b 34 || nat_eq b 39
 
+-- LF or CR
 abbrev pub is_line_end : ℕ → Bool
 is_line_end b = nat_eq b 10 || nat_eq b 13
 
+-- a byte that ends no line
 abbrev pub is_in_line : ℕ → Bool
 is_in_line b = not (is_line_end b)
 
@@ -40,12 +48,14 @@ is_in_line b = not (is_line_end b)
 abbrev pub is_blank : ℕ → Bool
 is_blank b = nat_eq b 32 || nat_eq b 9 || nat_eq b 10 || nat_eq b 12 || nat_eq b 13
 
+-- every byte passes the test
 abbrev pub all_bytes : (ℕ → Bool) → List ℕ → Bool
 all_bytes p [] = true
 all_bytes p (b ∷ bs) = p b && all_bytes p bs
 
 -- ---- what stands between quotes, byte by byte
 
+-- the value of a hexadecimal digit
 abbrev pub hex_value : ℕ → ℕ
 hex_value b = if is_digit b then b - 48 else if nat_le 97 b then b - 87 else b - 55
 
@@ -70,14 +80,17 @@ digit_moved (Mode.Point2 x y) h = Move.On (Mode.Point3 x y h) Added.Nothing
 digit_moved (Mode.Point3 x y z) h = pointed (((x * 16 + y) * 16 + z) * 16 + h)
 digit_moved mode h = Move.Stop
 
+-- what a byte does between quotes, in a text with escapes
 abbrev pub text_move : ℕ → Mode → ℕ → Move
 text_move quote Mode.Plain b = if nat_eq b quote then Move.Done else if is_line_end b then Move.Stop else if nat_eq b 92 then Move.On Mode.Escape Added.Nothing else Move.On Mode.Plain (Added.Byte b)
 text_move quote Mode.Escape b = escaped b
 text_move quote mode b = if is_hex b then digit_moved mode (hex_value b) else Move.Stop
 
+-- what a byte does between quotes, in a raw text
 abbrev pub raw_move : ℕ → ℕ → Move
 raw_move quote b = if nat_eq b quote then Move.Done else if is_line_end b then Move.Stop else Move.On Mode.Plain (Added.Byte b)
 
+-- what a byte does between quotes, in a text of either kind
 abbrev pub next_move : TextKind → ℕ → Mode → ℕ → Move
 next_move TextKind.Escaped quote mode b = text_move quote mode b
 next_move TextKind.Raw quote mode b = raw_move quote b
@@ -88,10 +101,12 @@ added Added.Nothing = []
 added (Added.Byte b) = b ∷ []
 added (Added.Scalar c) = encode_utf8 c
 
+-- these bytes before what was read
 abbrev pub with_front : List ℕ → Option (List ℕ × List ℕ) → Option (List ℕ × List ℕ)
 with_front bytes None = None
 with_front bytes (Some r) = Some (bytes ++ r.0, r.1)
 
+-- what is read by a move: nothing, the end, or more behind what it adds
 abbrev pub moved : Move → List ℕ → (Mode → Option (List ℕ × List ℕ)) → Option (List ℕ × List ℕ)
 moved Move.Stop rest go = None
 moved Move.Done rest go = Some ([], rest)
@@ -104,10 +119,12 @@ between next mode (b ∷ bs) = moved (next mode b) bs (λ m. between next m bs)
 
 -- ---- the forms
 
+-- the number of decimal digits behind a number
 abbrev pub decimal_number : ℕ → List ℕ → ℕ
 decimal_number n [] = n
 decimal_number n (b ∷ bs) = decimal_number (n * 10 + (b - 48)) bs
 
+-- the number of hexadecimal digits behind a number
 abbrev pub hex_number : ℕ → List ℕ → ℕ
 hex_number n [] = n
 hex_number n (b ∷ bs) = hex_number (n * 16 + hex_value b) bs
@@ -116,9 +133,11 @@ hex_number n (b ∷ bs) = hex_number (n * 16 + hex_value b) bs
 abbrev pub saturated : ℕ → ℕ
 saturated n = min n (2 ^ 64 - 1)
 
+-- the integer of decimal digits
 abbrev pub decimal_token : List ℕ → Token
 decimal_token w = Token.Integer (saturated (decimal_number 0 w))
 
+-- the integer of hexadecimal digits
 abbrev pub hex_token : List ℕ → Token
 hex_token w = Token.Integer (saturated (hex_number 0 w))
 
@@ -126,17 +145,20 @@ hex_token w = Token.Integer (saturated (hex_number 0 w))
 abbrev pub text_token : List ℕ → Token
 text_token v = Token.Literal (Literal.Text (utf8_lossy v))
 
+-- the reserved words of statements
 unfoldable pub is_control_word : List ℕ → Bool
 is_control_word w =
     bytes_eq w (codes "break") || bytes_eq w (codes "continue") || bytes_eq w (codes "else") || bytes_eq w (codes "for")
     || bytes_eq w (codes "if") || bytes_eq w (codes "loop") || bytes_eq w (codes "return") || bytes_eq w (codes "while")
 
+-- the reserved words of declarations
 unfoldable pub is_declaring_word : List ℕ → Bool
 is_declaring_word w =
     bytes_eq w (codes "as") || bytes_eq w (codes "const") || bytes_eq w (codes "function") || bytes_eq w (codes "import")
     || bytes_eq w (codes "let") || bytes_eq w (codes "namespace") || bytes_eq w (codes "package") || bytes_eq w (codes "var")
     || bytes_eq w (codes "void")
 
+-- the reserved words
 abbrev pub is_reserved : List ℕ → Bool
 is_reserved w = is_control_word w || is_declaring_word w
 
@@ -149,29 +171,35 @@ word_token at w =
     if bytes_eq w (codes "in") then Token.Sign Within else
     if is_reserved w then Token.Reserved (record { at = at; text = w }) else Token.Name (record { at = at; text = w })
 
+-- a text that ends the word with its closing quote
 abbrev pub closed_at : List ℕ → List ℕ → Option Token
 closed_at v [] = Some (text_token v)
 closed_at v (b ∷ bs) = None
 
+-- what was read between quotes, as a text where the word ends with it
 abbrev pub closed : Option (List ℕ × List ℕ) → Option Token
 closed None = None
 closed (Some r) = closed_at r.0 r.1
 
+-- the raw text that follows an `r`
 abbrev pub raw_form : List ℕ → Option Token
 raw_form [] = None
 raw_form (q ∷ w) = if is_quote q then closed (between (next_move TextKind.Raw q) Mode.Plain w) else None
 
+-- the hexadecimal integer that follows a `0`
 abbrev pub hex_form : List ℕ → Option Token
 hex_form [] = None
 hex_form (x ∷ []) = None
 hex_form (x ∷ h ∷ w) = if nat_eq x 120 then (if all_bytes is_hex (h ∷ w) then Some (hex_token (h ∷ w)) else None) else None
 
+-- the token of a bracket
 abbrev pub bracket_sign : ℕ → Option Token
 bracket_sign b =
     if nat_eq b 40 then Some (Token.Open Round) else if nat_eq b 41 then Some (Token.Close Round) else
     if nat_eq b 91 then Some (Token.Open Square) else if nat_eq b 93 then Some (Token.Close Square) else
     if nat_eq b 123 then Some (Token.Open Curly) else if nat_eq b 125 then Some (Token.Close Curly) else None
 
+-- the token of a mark that is no operator of two operands
 abbrev pub mark_sign : ℕ → Option Token
 mark_sign b =
     if nat_eq b 63 then Some Token.Question else if nat_eq b 58 then Some Token.Colon else
@@ -185,6 +213,7 @@ one_sign b =
     if nat_eq b 43 then Some (Token.Sign Add) else if nat_eq b 45 then Some Token.Minus else
     if nat_eq b 42 then Some (Token.Sign Mul) else if nat_eq b 37 then Some (Token.Sign Rem) else mark_sign b
 
+-- the token of two bytes
 abbrev pub two_sign : ℕ → ℕ → Option Token
 two_sign b c =
     if nat_eq b 124 && nat_eq c 124 then Some (Token.Sign Or) else if nat_eq b 38 && nat_eq c 38 then Some (Token.Sign And) else
@@ -195,12 +224,15 @@ two_sign b c =
 abbrev pub letter_form : ℕ → ℕ → List ℕ → Option Token
 letter_form at b w = if all_bytes is_name_byte w then Some (word_token at (b ∷ w)) else if nat_eq b 114 then raw_form w else None
 
+-- the integer behind its first digit
 abbrev pub digit_form : ℕ → List ℕ → Option Token
 digit_form b w = if all_bytes is_digit w then Some (decimal_token (b ∷ w)) else if nat_eq b 48 then hex_form w else None
 
+-- the text behind its opening quote
 abbrev pub quote_form : ℕ → List ℕ → Option Token
 quote_form b w = closed (between (next_move TextKind.Escaped b) Mode.Plain w)
 
+-- the sign of one byte or two
 abbrev pub sign_form : ℕ → List ℕ → Option Token
 sign_form b [] = one_sign b
 sign_form b (c ∷ []) = two_sign b c
@@ -211,10 +243,12 @@ abbrev pub slash_form : List ℕ → Option Piece
 slash_form [] = Some (Piece.Token (Token.Sign Div))
 slash_form (c ∷ w) = if nat_eq c 47 && all_bytes is_in_line w then Some Piece.Blank else None
 
+-- one blank byte
 abbrev pub blank_form : List ℕ → Option Piece
 blank_form [] = Some Piece.Blank
 blank_form (c ∷ w) = None
 
+-- a token as the word that it is
 abbrev pub as_piece : Option Token → Option Piece
 as_piece None = None
 as_piece (Some t) = Some (Piece.Token t)
