@@ -1,1 +1,4 @@
+pub mod Equality
+pub mod Opacity
 pub mod Values
+pub mod Weight

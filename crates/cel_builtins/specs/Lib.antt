@@ -1,0 +1,9 @@
+pub mod Bounds
+pub mod Calendar
+pub mod Durations
+pub mod Functions
+pub mod Numbers
+pub mod Outcomes
+pub mod Overloads
+pub mod Texts
+pub mod Timestamps
