@@ -10,9 +10,9 @@ use Rattle.std.proofs.lemmas.Fmt.{decimal_is_IsNumeral}
 use Rattle.std.proofs.lemmas.List.Splits.{slice_split_none, slice_split_at}
 use Rattle.serde_json.specs.Data.{Data, number, unsigned, string, object, no_members, member}
 use Rattle.serde_json.specs.Find.{get}
-use Rattle.json_text.specs.Forms.{has_size}
+use Rattle.base_types.specs.Forms.{has_size}
 use Rattle.json_text.specs.Document.{item_texts}
-use Rattle.json_text.specs.Reading.{◌>>=◌}
+use Rattle.base_types.specs.Reading.{◌>>=◌}
 use Rattle.iam_names.specs.Forms.{is_plain_byte, is_scope_word, is_account}
 use Rattle.iam_names.specs.PoolName.{pool_text, is_pool_name}
 use Rattle.iam_names.specs.declared.pool_name.PoolName.{PoolName}

@@ -5,7 +5,7 @@ use Rattle.std.proofs.lemmas.Option.{cond_some}
 use Rattle.serde_json.specs.Data.{Data}
 use Rattle.serde_json.specs.Find.{get}
 use Rattle.json_text.specs.Document.{text_at}
-use Rattle.json_text.specs.Forms.{passing}
+use Rattle.base_types.specs.Forms.{passing}
 use Rattle.access_token.specs.Parts.{formed, names_in}
 
 abbrev onto : {X : Type 0} → List X → Option (List X) → Option (List X)

@@ -7,7 +7,7 @@ use Rattle.std.proofs.lemmas.List.Splits.{slice_split_none, slice_split_at, leng
 use Rattle.std.proofs.lemmas.Bool.Decides.{Decides-eqb}
 use Rattle.std.proofs.lemmas.Bool.{le-leb}
 use Rattle.std.proofs.lemmas.Option.{cond_some}
-use Rattle.json_text.specs.Forms.{passing}
+use Rattle.base_types.specs.Forms.{passing}
 use Rattle.iam_names.specs.Forms.{is_scope_word}
 use Rattle.access_token.specs.Forms.{are_words}
 

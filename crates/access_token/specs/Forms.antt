@@ -1,7 +1,7 @@
 -- The forms of the facts that a payload says.
 use Rattle.std.specs.Prelude.{ℕ, ◌^◌, Bool, true, false, ◌&&◌, List, length, nat_le, nat_lt}
 use Rattle.std.specs.List.{list_all}
-use Rattle.json_text.specs.Forms.{has_size}
+use Rattle.base_types.specs.Forms.{has_size}
 use Rattle.iam_names.specs.Forms.{passes, is_account, is_attribute_name, is_scope_word}
 use Rattle.iam_names.specs.Member.{member_of}
 use Rattle.iam_names.specs.declared.identity.Identity.{Identity}

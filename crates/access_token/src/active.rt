@@ -4,8 +4,9 @@ ghost use Rattle.serde_json.specs.View.{members_view};
 ghost use Rattle.access_token.specs.Active.{active_data, active_text};
 
 use crate::Facts;
-use crate::payload::{last_scope, names_value, put_text};
+use crate::payload::{last_words, names_value, words_text};
 use base_types::Text;
+use json_text::put_text;
 use serde_json::{Map, Value};
 use std::alloc::{AllocError, Global};
 
@@ -42,7 +43,7 @@ fn put_active(
         "jti",
         format!(in alloc; "{number}")?.as_str(),
     )?;
-    let scope = last_scope(alloc, facts.scopes.as_slice())?;
+    let scope = words_text(alloc, last_words(facts.scopes.as_slice()))?;
     put_text(alloc, members, "scope", scope.as_str())?;
     put_text(alloc, members, "sub", facts.sub.as_str())?;
     put_text(alloc, members, "token_type", "Bearer")

@@ -1,14 +1,14 @@
 ghost use Rattle.std.specs.Prelude.{◌≡◌, IfOk, codes, option_map};
 ghost use Rattle.std.specs.List.{list_all};
 ghost use Rattle.serde_json.specs.View.{view};
-ghost use Rattle.json_text.specs.Forms.{has_size as size_is};
+ghost use Rattle.base_types.specs.Forms.{has_size as size_is};
 ghost use Rattle.iam_names.specs.Reads.{ReadsName};
 ghost use Rattle.access_token.specs.Forms as form;
 ghost use Rattle.access_token.specs.Parts.{names_in as names_under, act_in, may_act_in};
 
-use base_types::{Items, Text};
+use base_types::{Items, Text, has_size};
 use iam_names::{Member, NameError};
-use json_text::{has_size, text_at};
+use json_text::text_at;
 use serde_json::Value;
 use std::alloc::{AllocError, Global};
 

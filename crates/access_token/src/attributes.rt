@@ -5,9 +5,8 @@ ghost use Rattle.iam_names.specs.Reads.{ReadsName};
 ghost use Rattle.access_token.specs.Forms.{is_attribute as attribute_form};
 ghost use Rattle.access_token.specs.Parts.{formed, attributes_in, attributes_at as attributes_under};
 
-use base_types::{Text, TextMap};
+use base_types::{Text, TextMap, has_size};
 use iam_names::{AttributeForm, Form, NameError};
-use json_text::has_size;
 use serde_json::{Map, Value};
 use std::alloc::Global;
 

@@ -16,5 +16,5 @@ mod wif;
 pub use active::write_active;
 pub use facts::Facts;
 pub use laws::{payload_says_its_facts, payload_tells_its_number};
-pub use payload::{subject_name, words_text, write_payload};
+pub use payload::{last_words, subject_name, words_text, write_payload};
 pub use reading::{PayloadFault, read_payload};

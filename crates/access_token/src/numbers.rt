@@ -2,7 +2,7 @@ ghost use Rattle.std.specs.Prelude.{◌≡◌, ◌^◌, codes, nat_lt};
 ghost use Rattle.std.specs.Char.{digit_value as digit};
 ghost use Rattle.std.specs.Str.Parse.{digits_value};
 ghost use Rattle.serde_json.specs.View.{view};
-ghost use Rattle.json_text.specs.Forms.{passing};
+ghost use Rattle.base_types.specs.Forms.{passing};
 ghost use Rattle.iam_names.specs.Reads.{ReadsName};
 ghost use Rattle.access_token.specs.Parts.{date_in, number_in};
 

@@ -3,17 +3,18 @@ ghost use Rattle.std.specs.Cmp.Lexicographic.{slice_cmp};
 ghost use Rattle.std.specs.Ordering.{nat_cmp};
 ghost use Rattle.std.specs.String.{string_bytes};
 ghost use Rattle.std.specs.declared.cmp.Ordering.TheVariants.{Less};
-ghost use Rattle.serde_json.specs.Data.{string, array, object, put, member, no_members, no_items};
+ghost use Rattle.serde_json.specs.Data.{string, array, object, member, no_members, no_items};
 ghost use Rattle.serde_json.specs.View.{view, members_view};
 ghost use Rattle.iam_names.specs.PoolName.{pool_text};
 ghost use Rattle.iam_names.specs.declared.who.Who.{Who as Whom};
 ghost use Rattle.access_token.specs.Facts.{name_of};
-ghost use Rattle.access_token.specs.Payload.{items, optional, texts, nested, words_text as joined, last_words};
+ghost use Rattle.access_token.specs.Payload.{items, optional, texts, nested, words_text as joined, last_words as last_of};
 ghost use Rattle.access_token.specs.Payload.{attributes_data, who_data, wif_data, payload_data, payload_text};
 
 use crate::Facts;
 use base_types::{Items, Text, TextMap};
 use iam_names::{Account, Identity, PoolName, ScopeWord, Who};
+use json_text::put_text;
 use serde_json::{Map, Value};
 use std::alloc::{AllocError, Global};
 
@@ -31,20 +32,6 @@ pub fn words_text(alloc: Global, words: &[ScopeWord]) -> Result<Text, AllocError
         text.push_str(word.as_str())?;
     }
     Ok(Text::new(text))
-}
-
-/// Puts a text under a name. The name is written as it stands.
-pub fn put_text(
-    alloc: Global,
-    members: &mut Map<String, Value>,
-    name: &str,
-    text: &str,
-) -> Result<(), AllocError>
-    ensures { OnOk result (members_view members.new.entries
-        ≡ put name.now (string text.now) (members_view members.old.entries)) }
-{
-    let value = Value::try_from_str(alloc, text)?;
-    serde_json::put(members, alloc, name, value)
 }
 
 fn name_value(
@@ -214,12 +201,12 @@ pub fn subject_name(alloc: Global, who: &Who) -> Result<Text, AllocError>
 
 /// The words of the last exchange.
 #[tactic(auto, using(crate::proofs::Writing::last_words_at))]
-pub(crate) fn last_scope(alloc: Global, scopes: &[Items<ScopeWord>]) -> Result<Text, AllocError>
-    ensures { IfOk result (λ text. text ≡ joined (last_words scopes.now)) }
+pub fn last_words(scopes: &[Items<ScopeWord>]) -> &[ScopeWord]
+    ensures { result.now ≡ last_of scopes.now }
 {
     match scopes.last() {
-        None => Text::copy_of(alloc, ""),
-        Some(words) => words_text(alloc, words.as_slice()),
+        None => &[],
+        Some(words) => words.as_slice(),
     }
 }
 
@@ -249,7 +236,7 @@ fn put_claims(
     if let Some(actors) = names_value(alloc, "may_act", facts.may_act.as_slice())? {
         serde_json::put(members, alloc, "may_act", actors)?;
     }
-    let scope = last_scope(alloc, facts.scopes.as_slice())?;
+    let scope = words_text(alloc, last_words(facts.scopes.as_slice()))?;
     put_text(alloc, members, "scope", scope.as_str())?;
     put_text(alloc, members, "sub", facts.sub.as_str())?;
     serde_json::put(members, alloc, "wif", wif_value(alloc, facts)?)

@@ -1,7 +1,7 @@
 ghost use Rattle.std.specs.Prelude.{◌≡◌, ◌<◌, ◌∷◌, [], ◌==◌, length, nat_le, IfSome, MatchOption};
 ghost use Rattle.std.specs.List.{list_all, slice_split};
 ghost use Rattle.serde_json.specs.View.{view, items_view};
-ghost use Rattle.json_text.specs.Forms.{passing};
+ghost use Rattle.base_types.specs.Forms.{passing};
 ghost use Rattle.iam_names.specs.Forms.{is_scope_word};
 ghost use Rattle.iam_names.specs.Reads.{ReadsName};
 ghost use Rattle.access_token.specs.Parts.{each_item, scope_in, scopes_in};

@@ -2,15 +2,15 @@ ghost use Rattle.std.specs.Prelude.{◌≡◌, codes, option_and_then};
 ghost use Rattle.std.specs.List.{list_all};
 ghost use Rattle.serde_json.specs.Find.{get as member};
 ghost use Rattle.serde_json.specs.View.{view};
-ghost use Rattle.json_text.specs.Forms.{has_size as size_is};
+ghost use Rattle.base_types.specs.Forms.{has_size as size_is};
 ghost use Rattle.iam_names.specs.Reads.{ReadsName};
 ghost use Rattle.access_token.specs.Parts.{who_in, outside_in, groups_at as groups_under, pool_at as pool_under, subject_at as subject_under};
 
 use crate::attributes::attributes_at;
 use crate::wif::pool_of;
-use base_types::{Items, Text};
+use base_types::{Items, Text, has_size};
 use iam_names::{Account, Identity, NameError, PoolName, Who};
-use json_text::{has_size, text_at, texts_at};
+use json_text::{text_at, texts_at};
 use serde_json::Value;
 use std::alloc::Global;
 

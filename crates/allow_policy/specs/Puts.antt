@@ -2,7 +2,7 @@
 use Rattle.std.specs.Prelude.{◌≡◌, ℕ, List, [], ◌∷◌, Bool, false, not, ◌&&◌, ◌||◌, nat_lt, nat_le, length, is_none, Option, None, Some, Result, Ok, Err}
 use Rattle.std.specs.List.{list_all, list_any}
 use Rattle.base_types.specs.Named.{value_at}
-use Rattle.json_text.specs.Rules.{fails_if, first_of}
+use Rattle.base_types.specs.Rules.{fails_if, first_of}
 use Rattle.iam_names.specs.Roles.{knows}
 use Rattle.allow_policy.specs.Lists.{Lists}
 use Rattle.allow_policy.specs.declared.binding.Binding.{Binding}

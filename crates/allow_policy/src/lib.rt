@@ -10,8 +10,6 @@ mod puts;
 mod room;
 mod row;
 mod scope_set;
-#[cfg(test)]
-mod tests;
 
 pub use binding::Binding;
 pub use granting::{granted, knows_scope, scope_allows};

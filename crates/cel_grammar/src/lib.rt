@@ -12,6 +12,3 @@ pub use draft::{Draft, DraftPair};
 pub use error::{ParseError, SyntaxRule};
 pub use parser::{one_draft, parse_draft, viable_prefix};
 pub use reader::strength_of;
-
-#[cfg(test)]
-mod tests;

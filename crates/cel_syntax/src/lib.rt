@@ -15,6 +15,3 @@ pub use macro_faults::{MacroFault, first_fault};
 pub use macros::expand;
 pub use printer::print;
 pub use whole::{one_tree, parse};
-
-#[cfg(test)]
-mod tests;

@@ -12,6 +12,3 @@ mod words;
 pub use lexer::{Lexing, lex, longest_word, one_lexing};
 pub use spelling::put_quoted;
 pub use token::{Bracket, Lexeme, Literal, Name, Token};
-
-#[cfg(test)]
-mod tests;

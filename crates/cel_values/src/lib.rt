@@ -3,8 +3,6 @@
 
 mod conversion;
 mod expr;
-#[cfg(test)]
-mod tests;
 mod value;
 
 pub use conversion::from_json;

@@ -1,6 +1,6 @@
 -- What a gate decides of a token by what it carries.
 use Rattle.std.specs.Prelude.{ℕ, ◌+◌, List, [], ◌∷◌, Bool, true, false, Option, None, Some, option_map, nat_lt, Result, Ok, Err, if◌then◌else◌}
-use Rattle.json_text.specs.Rules.{first_failing}
+use Rattle.base_types.specs.Rules.{first_failing}
 use Rattle.allow_policy.specs.Granting.{granted, scope_allows}
 use Rattle.service_view.specs.View.{View, pool_enabled, account_enabled}
 use Rattle.access_token.specs.declared.facts.Facts.{Facts}

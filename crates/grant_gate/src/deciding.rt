@@ -1,5 +1,5 @@
 ghost use Rattle.std.specs.Prelude.{◌≡◌, ◌≤◌, IfOk, length};
-ghost use Rattle.json_text.specs.Rules.{first_of};
+ghost use Rattle.base_types.specs.Rules.{first_of};
 ghost use Rattle.service_view.specs.View.{pool_enabled, account_enabled};
 ghost use Rattle.allow_policy.specs.Granting.{granted as is_granted};
 ghost use Rattle.grant_gate.specs.Decision as decisions;

@@ -8,7 +8,7 @@ use Rattle.base64.specs.Engines.{url_safe_no_pad}
 use Rattle.base64.specs.GeneralPurpose.{IsBytes}
 use Rattle.base64.proofs.EngineFacts.{decode_of_strict, front_bytes}
 use Rattle.json_text.specs.Document.{document}
-use Rattle.json_text.specs.Rules.{fails_if, first_of}
+use Rattle.base_types.specs.Rules.{fails_if, first_of}
 use Rattle.hmac_jws.specs.Hmac.{hmac_of}
 use Rattle.hmac_jws.specs.Compact.{base64url, base64url_bytes, dot, signed_text, signing_input}
 use Rattle.hmac_jws.specs.Verified.{parts, MacGood, is_text, first_header_fault, first_fault_of_parts, first_jws_fault, payload_of}

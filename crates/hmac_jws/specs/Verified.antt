@@ -6,7 +6,7 @@ use Rattle.std.specs.Str.{bytes_eq}
 use Rattle.serde_json.specs.Data.{Data}
 use Rattle.serde_json.specs.Find.{get, as_object}
 use Rattle.json_text.specs.Document.{document, text_at}
-use Rattle.json_text.specs.Rules.{fails_if, first_of}
+use Rattle.base_types.specs.Rules.{fails_if, first_of}
 use Rattle.hmac_jws.specs.Hmac.{hmac_of}
 use Rattle.hmac_jws.specs.Compact.{base64url_bytes, dot, signing_input}
 use Rattle.hmac_jws.specs.declared.fault.JwsFault.{JwsFault}

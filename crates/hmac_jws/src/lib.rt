@@ -7,8 +7,6 @@ mod header;
 mod laws;
 mod mac;
 mod parts;
-#[cfg(test)]
-mod tests;
 mod verification;
 
 pub use compact::sign;

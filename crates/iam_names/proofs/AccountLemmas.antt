@@ -6,7 +6,7 @@ use Rattle.std.proofs.lemmas.Bool.{leb-true, le-leb}
 use Rattle.std.proofs.lemmas.Bool.Decides.{nat_tests}
 use Rattle.std.proofs.lemmas.List.Folds.{list_all-append}
 use Rattle.std.proofs.lemmas.Slice.Eq.{bytes_eq-Decides}
-use Rattle.json_text.specs.Forms.{has_size}
+use Rattle.base_types.specs.Forms.{has_size}
 use Rattle.iam_names.specs.Cuts.{cut_at}
 use Rattle.iam_names.specs.Forms.{passes, is_id_byte, is_plain_byte, is_label, is_account_home, is_account, is_resource}
 use Rattle.iam_names.specs.Resource.{account_resource}

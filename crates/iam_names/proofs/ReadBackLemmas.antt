@@ -2,8 +2,8 @@
 use Rattle.std.proofs.Common.{◌≡◌, ℕ, List, [], ◌∷◌, ◌++◌, Bool, true, false, not, ◌&&◌, eqb, cond, Option, Some, None, option_map, codes, refl, ap, sym, ◌∙◌, arith}
 use Rattle.std.specs.List.{list_all}
 use Rattle.std.proofs.lemmas.Bool.Decides.{nat_tests}
-use Rattle.json_text.specs.Forms.{has_size, passing}
-use Rattle.json_text.specs.Reading.{◌>>=◌}
+use Rattle.base_types.specs.Forms.{has_size, passing}
+use Rattle.base_types.specs.Reading.{◌>>=◌}
 use Rattle.iam_names.specs.Cuts.{after, cut_at}
 use Rattle.iam_names.specs.Forms.{is_digit, is_id_byte, is_attribute_byte, begins_with, is_project, is_id, is_account, is_attribute_name}
 use Rattle.iam_names.specs.Parts.{path_parts, subject_at, provider_at}

@@ -1,6 +1,6 @@
 -- A provider's full name, which an outside token names as its audience.
 use Rattle.std.specs.Prelude.{ℕ, List, ◌++◌, Bool, ◌&&◌, Option, Some, codes}
-use Rattle.json_text.specs.Reading.{◌>>=◌}
+use Rattle.base_types.specs.Reading.{◌>>=◌}
 use Rattle.iam_names.specs.Cuts.{after}
 use Rattle.iam_names.specs.Forms.{is_id}
 use Rattle.iam_names.specs.Parts.{path_parts, provider_at}

@@ -3,7 +3,7 @@ use Rattle.std.specs.Prelude.{ℕ, List, [], ◌∷◌, Bool, false, not, ◌&&�
 use Rattle.std.specs.List.{list_all, slice_split}
 use Rattle.std.specs.Option.{option_map_or}
 use Rattle.std.specs.Str.{bytes_eq}
-use Rattle.json_text.specs.Forms.{has_size, is_visible}
+use Rattle.base_types.specs.Forms.{has_size, is_visible}
 use Rattle.iam_names.specs.Cuts.{after, cut_at}
 
 abbrev pub is_digit : ℕ → Bool

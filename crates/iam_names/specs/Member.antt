@@ -4,8 +4,8 @@ use Rattle.std.specs.Option.{option_map_or}
 use Rattle.std.specs.List.{list_any}
 use Rattle.std.specs.Str.{bytes_eq}
 use Rattle.base_types.specs.Named.{value_at}
-use Rattle.json_text.specs.Forms.{has_size, passing}
-use Rattle.json_text.specs.Reading.{◌>>=◌}
+use Rattle.base_types.specs.Forms.{has_size, passing}
+use Rattle.base_types.specs.Reading.{◌>>=◌}
 use Rattle.iam_names.specs.Cuts.{after, cut_at}
 use Rattle.iam_names.specs.Forms.{passes, is_account, is_attribute_name}
 use Rattle.iam_names.specs.Parts.{path_parts, subject_at}

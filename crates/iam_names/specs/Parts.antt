@@ -1,7 +1,7 @@
 -- The parts of a text that begins with a pool's path.
 use Rattle.std.specs.Prelude.{ℕ, List, Option, Some, codes}
-use Rattle.json_text.specs.Forms.{has_size, passing}
-use Rattle.json_text.specs.Reading.{◌>>=◌}
+use Rattle.base_types.specs.Forms.{has_size, passing}
+use Rattle.base_types.specs.Reading.{◌>>=◌}
 use Rattle.iam_names.specs.Cuts.{after, cut_at}
 use Rattle.iam_names.specs.Forms.{is_id}
 

@@ -1,7 +1,7 @@
 -- A pool's name, and where it stands in longer names.
 use Rattle.std.specs.Prelude.{ℕ, List, ◌++◌, Bool, ◌&&◌, Option, None, Some, if◌then◌else◌, codes}
 use Rattle.std.specs.Str.{bytes_eq}
-use Rattle.json_text.specs.Reading.{◌>>=◌}
+use Rattle.base_types.specs.Reading.{◌>>=◌}
 use Rattle.iam_names.specs.Cuts.{cut_at}
 use Rattle.iam_names.specs.Forms.{is_project, is_id}
 use Rattle.iam_names.specs.declared.pool_name.PoolName.{PoolName}

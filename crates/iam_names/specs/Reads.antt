@@ -1,6 +1,6 @@
 -- What a reader of names answers.
 use Rattle.std.specs.Prelude.{◌≡◌, Option, None, Result}
-use Rattle.json_text.specs.Reading.{ReadsOr}
+use Rattle.base_types.specs.Reading.{ReadsOr}
 use Rattle.iam_names.specs.declared.fault.NameError.{NameError}
 use Rattle.iam_names.specs.declared.fault.NameError.TheVariants.{Form, Memory}
 

@@ -7,7 +7,7 @@ use crate::bytes::{
 };
 use crate::cut::{after, cut_at};
 use crate::name::{Form, Name};
-use json_text::has_size;
+use base_types::has_size;
 
 /// The form of a project's number.
 #[derive(Clone, Copy, Debug)]

@@ -14,8 +14,6 @@ mod name;
 mod pool_name;
 mod resource;
 mod roles;
-#[cfg(test)]
-mod tests;
 mod who;
 
 pub use audience::Audience;

@@ -2,7 +2,7 @@ ghost use Rattle.std.specs.Prelude.{◌≡◌, IfOk, option_map};
 ghost use Rattle.std.specs.List.{list_any};
 ghost use Rattle.std.specs.Str.{bytes_eq};
 ghost use Rattle.base_types.specs.Named.{value_at};
-ghost use Rattle.json_text.specs.Forms.{passing, has_size as size_is};
+ghost use Rattle.base_types.specs.Forms.{passing, has_size as size_is};
 ghost use Rattle.iam_names.specs.Forms.{passes};
 ghost use Rattle.iam_names.specs.Member as members;
 ghost use Rattle.iam_names.specs.Parts.{subject_at};
@@ -14,8 +14,7 @@ use crate::forms::{Account, AttributeName};
 use crate::identity::Identity;
 use crate::pool_name::{PoolName, path_of};
 use crate::who::Who;
-use base_types::Text;
-use json_text::has_size;
+use base_types::{Text, has_size};
 use std::alloc::{AllocError, Global};
 
 /// A member of a binding.

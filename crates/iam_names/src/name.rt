@@ -32,7 +32,7 @@ impl<F: Form> Model for Name<F> {
 
 impl<F: Form> Name<F> {
     ghost use Rattle.std.specs.Prelude.{◌≡◌, true, IfOk};
-    ghost use Rattle.json_text.specs.Forms.{passing};
+    ghost use Rattle.base_types.specs.Forms.{passing};
     ghost use Rattle.iam_names.specs.Reads.{ReadsName};
 
     /// Form comes exactly where the text isn't of the form.

@@ -7,3 +7,4 @@ pub mod Contents
 pub mod TokenTexts
 pub mod ValueTexts
 pub mod FoundTexts
+pub mod ShortArrays

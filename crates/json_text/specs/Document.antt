@@ -1,10 +1,11 @@
 -- A JSON text, and what an object has under a name.
-use Rattle.std.specs.Prelude.{ℕ, List, [], ◌∷◌, map, Option, None, Some, option_map, option_and_then, if◌then◌else◌}
+use Rattle.std.specs.Prelude.{ℕ, List, map, Option, None, option_and_then, if◌then◌else◌}
 use Rattle.std.specs.Str.{is_utf8}
 use Rattle.serde_json.specs.Read.{read}
-use Rattle.serde_json.specs.Data.{Data, Items, no_items, item, string, array}
+use Rattle.serde_json.specs.Data.{Data, Items, string, array}
 use Rattle.serde_json.specs.Find.{get, as_number, as_u64, as_str, as_array}
 use Rattle.serde_json.specs.View.{items_of}
+use Rattle.json_text.specs.Arrays.{each}
 
 -- the value that bytes are, or none
 abbrev pub document : List ℕ → Option Data
@@ -20,8 +21,7 @@ whole_number_at name d = option_and_then as_u64 (option_and_then as_number (get 
 
 -- the texts of an array's items, where each is one
 abbrev pub item_texts : Items → Option (List (List ℕ))
-item_texts no_items = Some []
-item_texts (item d ds) = option_and_then (λ text. option_map (λ texts. text ∷ texts) (item_texts ds)) (as_str d)
+item_texts items = each as_str items
 
 -- the list of texts under a name
 abbrev pub texts_at : List ℕ → Data → Option (List (List ℕ))

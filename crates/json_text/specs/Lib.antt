@@ -1,5 +1,5 @@
+pub mod Arrays
 pub mod Clean
 pub mod Document
-pub mod Forms
-pub mod Reading
-pub mod Rules
+pub mod Members
+pub mod Reads

@@ -3,15 +3,13 @@
 #![tactic(auto)]
 
 mod document;
-mod forms;
+mod each;
 mod laws;
 mod members;
-#[cfg(test)]
-mod tests;
 mod texts;
 
 pub use document::{DocumentFault, read_document};
-pub use forms::{has_size, is_visible_text};
+pub use each::{ReadFault, ReadsJson, list_at, read_each, short_array, short_list, where_formed};
 pub use laws::compact_text_reads_back;
-pub use members::{text_at, whole_number_at};
-pub use texts::{texts_at, texts_of_items, texts_value};
+pub use members::{date_of, put_text, switch, text_at, whole_number_at};
+pub use texts::{TextForm, texts_at, texts_of_items, texts_value};

@@ -1,79 +1,60 @@
--- The links that a journal's entries leave have their forms.
-use Rattle.std.proofs.Common.{◌≡◌, ◌≤◌, ◌+◌, ℕ, List, [], ◌∷◌, ◌++◌, length, Bool, true, false, ◌&&◌, not, nat_le, refl, sym, ◌∙◌, subst, arith, length-append}
+-- The links that a lawful journal leaves have their forms.
+use Rattle.std.proofs.Common.{◌≡◌, ◌≤◌, ◌<◌, ◌+◌, ◌^◌, ℕ, List, [], ◌∷◌, ◌++◌, length, Bool, true, false, not, refl, sym, ◌∙◌, ap, subst, arith, length-append}
 use Rattle.std.specs.Prelude.{Option, None, Some, Result, Ok, Err, slice_get, option_map, if◌then◌else◌}
 use Rattle.std.specs.Result.{result_ok}
-use Rattle.std.specs.List.{AllByRecursion, list_all}
-use Rattle.std.specs.Str.{bytes_eq}
+use Rattle.std.specs.List.{AllByRecursion}
+use Rattle.std.specs.Str.{bytes_eq, IsUtf8}
+use Rattle.base_types.specs.Rules.{fails_if}
+use Rattle.base_types.specs.Steps.{◌>>=◌}
 use Rattle.iam_names.specs.Audience.{audience_text}
-use Rattle.iam_names.specs.Forms.{is_scope_word}
-use Rattle.json_text.specs.Rules.{fails_if}
+use Rattle.service_config.specs.declared.config.Config.{Config}
+use Rattle.service_config.specs.declared.config.StartProvider.{StartProvider}
+use Rattle.service_config.specs.Configuration.{provider_name}
+use Rattle.service_config.specs.Formed.{IsFormedConfig, IsFormedStart, IsFormedProvider}
 use Rattle.service_view.specs.View.{pool_enabled}
-use Rattle.links.specs.declared.config.StartProvider.{StartProvider}
 use Rattle.links.specs.declared.entry.Entry.{Entry}
 use Rattle.links.specs.declared.entry.Entry.TheVariants as entry
 use Rattle.links.specs.declared.entry.Exchange.{Exchange}
 use Rattle.links.specs.declared.fault.RuleCode.{RuleCode}
 use Rattle.links.specs.declared.fault.RuleCode.TheVariants.{E14, E15}
-use Rattle.links.specs.declared.link.Link.{Link}
-use Rattle.links.specs.declared.link.Source.{Source}
-use Rattle.links.specs.Chain.{Chain, chains_of, joined}
-use Rattle.links.specs.Entries.{IsEntry, IsExchange, HasGoodPool}
-use Rattle.links.specs.Exact.{IsGoodLink, IsGoodPool, IsGoodSource}
-use Rattle.links.specs.Forms.{IsFormedSource}
-use Rattle.links.specs.Payload.{link_chain}
-use Rattle.links.specs.Sources.{◌>>=◌, passed, source_of, provider_name}
-use Rattle.links.specs.State.{Content, named, source_at, federated_link, link_of, with_link, after, state_after, chain}
+use Rattle.links.specs.declared.source.Source.{Source}
+use Rattle.links.specs.Chain.{Link, Chain, chains_of, joined}
+use Rattle.links.specs.Entries.{IsEntry, IsExchange}
+use Rattle.links.specs.Licence.{LawfulFrom, Lawful, Reached}
+use Rattle.links.specs.Sources.{passed, source_of}
+use Rattle.links.specs.State.{Content, named, source_at, federated_link, link_of, with_link, after, start_of, state_after, content_of, chain}
+use Rattle.links.proofs.Good.{IsGoodLink, IsGoodSource}
 use Rattle.links.proofs.Places.{chains_from, chains_of-from, chain_found-all}
 use Rattle.links.proofs.Replays.{good-pushed}
+use Rattle.links.proofs.Roots.{link_chain}
 use Rattle.links.proofs.SourceForms.{source_forms}
 
-both : (a b : Bool) → (a && b) ≡ true → (a ≡ true) × (b ≡ true)
-both true b h = (refl, h)
-both false b h = cc
-
-each_word : (words : List (List ℕ)) → list_all is_scope_word words ≡ true → AllByRecursion (λ word. is_scope_word word ≡ true) words
-each_word [] all = tt
-each_word (word ∷ words) all = let parts = both (is_scope_word word) (list_all is_scope_word words) all in (parts.0, each_word words parts.1)
-
 -- ---- the source of an exchange
-
-IsFormed : Source → Type 0
-IsFormed source = IsGoodSource source × IsFormedSource source
 
 by_pool : (enabled : Bool) (r : Result Source RuleCode) (s : Source) → passed (fails_if (not enabled) E15) r ≡ Ok s → r ≡ Ok s
 by_pool true r s is = is
 by_pool false r s is = absurd (cc is)
 
-by_name : (c : Content) (x : Exchange) (provider : StartProvider) (same : Bool) (s : Source) → IsGoodPool provider.pool
-    → ((if same then Ok provider else Err E14) >>= (λ p. passed (fails_if (not (pool_enabled c.view p.pool)) E15) (source_of p x.token x.at))) ≡ Ok s → IsFormed s
-unfolding IsFormed
-by_name c x provider true s good is = source_forms provider x.token x.at s good (by_pool (pool_enabled c.view provider.pool) (source_of provider x.token x.at) s is)
+by_name : (c : Content) (x : Exchange) (provider : StartProvider) (same : Bool) (s : Source) → IsFormedProvider provider
+    → ((if same then Ok provider else Err E14) >>= (λ p. passed (fails_if (not (pool_enabled c.view p.pool)) E15) (source_of p x.token x.at))) ≡ Ok s → IsGoodSource s
+by_name c x provider true s good is = source_forms provider x.token x.at s good.pool (by_pool (pool_enabled c.view provider.pool) (source_of provider x.token x.at) s is)
 by_name c x provider false s good is = absurd (cc is)
 
-by_start : (c : Content) (x : Exchange) (start : Option StartProvider) (s : Source) → HasGoodPool start
-    → (named start x.provider >>= (λ p. passed (fails_if (not (pool_enabled c.view p.pool)) E15) (source_of p x.token x.at))) ≡ Ok s → IsFormed s
+by_start : (c : Content) (x : Exchange) (start : Option StartProvider) (s : Source) → IsFormedStart start
+    → (named start x.provider >>= (λ p. passed (fails_if (not (pool_enabled c.view p.pool)) E15) (source_of p x.token x.at))) ≡ Ok s → IsGoodSource s
 by_start c x None s good is = absurd (cc is)
 by_start c x (Some provider) s good is = by_name c x provider (bytes_eq (audience_text (provider_name provider)) (audience_text x.provider)) s good is
 
 -- ---- the link of an entry
 
-by_source : (x : Exchange) (r : Result Source RuleCode) (link : Link) → IsExchange x → ((s : Source) → r ≡ Ok s → IsFormed s)
+by_source : (x : Exchange) (r : Result Source RuleCode) (link : Link) → IsExchange x → ((s : Source) → r ≡ Ok s → IsGoodSource s)
     → option_map (federated_link x.scope x.at) (result_ok r) ≡ Some link → IsGoodLink link
-unfolding IsFormed
-by_source x (Ok s) link form formed is =
+by_source x (Ok s) link form good is =
     let same : federated_link x.scope x.at s ≡ link = cc is in
-    let forms = formed s refl in
-    let size = both (nat_le 1 (length x.scope)) (nat_le (length x.scope) 16 && list_all is_scope_word x.scope) form.words in
-    let all = both (nat_le (length x.scope) 16) (list_all is_scope_word x.scope) size.1 in
-    subst IsGoodLink same (record {
-      at = form.moment;
-      words = each_word x.scope all.1;
-      kind = forms.0;
-      formed = record { words = form.words; kind = forms.1 };
-    })
-by_source x (Err rule) link form formed is = absurd (cc is)
+    subst IsGoodLink same (record { at = form.moment; words = form.words; kind = good s refl })
+by_source x (Err rule) link form good is = absurd (cc is)
 
-link_good : (c : Content) (e : Entry) (link : Link) → HasGoodPool c.start → IsEntry e → link_of c e ≡ Some link → IsGoodLink link
+link_good : (c : Content) (e : Entry) (link : Link) → IsFormedStart c.start → IsEntry e → link_of c e ≡ Some link → IsGoodLink link
 link_good c (entry.Put command) link good form is = absurd (cc is)
 link_good c (entry.Federated x) link good form is = by_source x (source_at c x.provider x.token x.at) link form (λ s there. by_start c x c.start s good there) is
 
@@ -91,23 +72,41 @@ with_few links (Some link) = omega (arith, length-append links (link ∷ []))
 pub record Follows (c d : Content) (es : List Entry) : Type 0 where
   pub key : d.key ≡ c.key
   pub issuer : d.issuer ≡ c.issuer
+  pub count : d.count ≡ c.count + length es
   pub few : length d.links ≤ length c.links + length es
-  pub good : HasGoodPool c.start → AllByRecursion IsEntry es → AllByRecursion IsGoodLink c.links → AllByRecursion IsGoodLink d.links
+  pub good : IsFormedStart c.start → LawfulFrom c es → AllByRecursion IsGoodLink c.links → AllByRecursion IsGoodLink d.links
 
 pub follows : (c : Content) (es : List Entry) → Follows c (state_after c es) es
-follows c [] = record { key = refl; issuer = refl; few = omega arith; good = λ start forms all. all }
+follows c [] = record { key = refl; issuer = refl; count = omega arith; few = omega arith; good = λ start lawful all. all }
 follows c (e ∷ es) =
     let rest = follows (after c e) es in
     record {
       key = rest.key;
       issuer = rest.issuer;
+      count = rest.count ∙ omega arith;
       few = omega (arith, rest.few, with_few c.links (link_of c e));
-      good = λ start forms all. rest.good start forms.1 (with_good c.links (link_of c e) all (λ l is. link_good c e l start forms.0 is));
+      good = λ start lawful all. rest.good start lawful.1 (with_good c.links (link_of c e) all (λ l is. link_good c e l start lawful.0.0 is));
     }
 
-pub state_after-append : (c : Content) (xs ys : List Entry) → state_after c (xs ++ ys) ≡ state_after (state_after c xs) ys
-state_after-append c [] ys = refl
-state_after-append c (x ∷ xs) ys = state_after-append (after c x) xs ys
+-- ---- each state that is reached
+
+-- what is known of each state
+pub record IsKept (c : Content) : Type 0 where
+  pub issuer : IsUtf8 c.issuer
+  pub links : AllByRecursion IsGoodLink c.links
+  pub few : length c.links ≤ c.count
+
+pub lawful_kept : (config : Config) (journal : List Entry) → IsFormedConfig config → Lawful config journal → IsKept (content_of config journal)
+lawful_kept config journal formed lawful =
+    let to = follows (start_of config) journal in
+    record {
+      issuer = subst IsUtf8 (sym to.issuer) formed.issuer.utf8;
+      links = to.good formed.start lawful tt;
+      few = omega (arith, to.few, to.count);
+    }
+
+pub reached_kept : (c : Content) → Reached c → IsKept c
+reached_kept c is = subst IsKept (sym is.content) (lawful_kept is.config is.journal is.formed is.lawful)
 
 -- ---- the link of a number
 

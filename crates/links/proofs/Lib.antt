@@ -1,16 +1,15 @@
-pub mod Back
-pub mod Clean
-pub mod ExactTexts
-pub mod Floats
-pub mod GoodLinks
-pub mod Says
-pub mod Utf8
-pub mod Writing
 pub mod Chains
-mod Preparing
-mod Places
+pub mod Good
+pub mod GoodLinks
+pub mod Held
 pub mod Issuing
-pub mod Replays
-mod Subjects
-pub mod SourceForms
 pub mod Journals
+pub mod Laws
+pub mod Names
+pub mod Places
+mod Preparing
+pub mod Replays
+pub mod Roots
+pub mod SourceForms
+pub mod Steps
+mod Subjects

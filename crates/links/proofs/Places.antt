@@ -2,11 +2,8 @@
 use Rattle.std.proofs.Common.{◌≡◌, ◌+◌, ◌⊎◌, inl, inr, ℕ, zero, suc, List, [], ◌∷◌, ◌++◌, length, Bool, true, false, refl, sym, ◌∙◌, ap, subst, arith, append_assoc, append-nil, length-append, add-one}
 use Rattle.std.specs.Prelude.{Option, None, Some, slice_get}
 use Rattle.links.specs.Issued.{place_of}
-use Rattle.links.specs.declared.link.Link.{Link}
-use Rattle.links.specs.declared.link.LinkKind.{LinkKind}
-use Rattle.links.specs.declared.link.LinkKind.TheVariants.{Federated}
-use Rattle.links.specs.Chain.{Chain, chains_of, chains_after, next_chain, chain_of_kind, own_at}
-use Rattle.links.specs.Payload.{link_chain, root_of}
+use Rattle.links.specs.Chain.{Kind, Federated, Link, Chain, chains_of, chains_after, next_chain, chain_of_kind, own_at}
+use Rattle.links.proofs.Roots.{link_chain, root_of}
 
 -- no element passes
 pub NoneAt : {A : Type 0} → (A → Bool) → List A → Type 0
@@ -48,7 +45,7 @@ abbrev pub chains_from : ℕ → List Link → List (Option Chain)
 chains_from n [] = []
 chains_from n (link ∷ links) = Some (link_chain n link) ∷ chains_from (n + 1) links
 
-next_is : (chains : List (Option Chain)) (link : Link) (k : LinkKind) → link.kind ≡ k
+next_is : (chains : List (Option Chain)) (link : Link) (k : Kind) → link.kind ≡ k
     → chain_of_kind (own_at (length chains) link) chains k ≡ Some (root_of (own_at (length chains) link) k)
 next_is chains link (Federated source) is = refl
 

@@ -1,153 +1,129 @@
--- What the rules of an entry say of its link.
+-- The steps of an entry's preparing are its licence and what its recording gives.
 use Rattle.std.proofs.Common.{◌≡◌, ℕ, List, [], ◌∷◌, length, Bool, true, false, not, refl, sym, ◌∙◌, ap, subst}
 use Rattle.std.specs.Prelude.{Option, None, Some, Result, Ok, Err, option_map, nat_lt, if◌then◌else◌}
+use Rattle.std.specs.Result.{result_ok}
 use Rattle.std.specs.List.{list_all}
-use Rattle.json_text.specs.Rules.{fails_if, first_of}
+use Rattle.base_types.specs.Rules.{fails_if, first_of}
+use Rattle.base_types.specs.Steps.{◌>>=◌}
+use Rattle.hmac_jws.specs.Compact.{compact}
+use Rattle.access_token.specs.Payload.{payload_text}
+use Rattle.allow_policy.specs.declared.put_fault.PutFault.{PutFault}
+use Rattle.service_view.specs.declared.command.Command.{Command}
+use Rattle.service_view.specs.declared.command.Command.TheVariants as command
+use Rattle.service_view.specs.declared.ready_command.Ready.{Ready}
+use Rattle.service_view.specs.Puts.{put_fault, made_ready, command_of}
 use Rattle.links.specs.declared.entry.Entry.{Entry}
 use Rattle.links.specs.declared.entry.Entry.TheVariants as entry
 use Rattle.links.specs.declared.entry.Exchange.{Exchange}
-use Rattle.allow_policy.specs.declared.put_fault.PutFault.{PutFault}
-use Rattle.service_view.specs.declared.command.Command.{Command}
-use Rattle.service_view.specs.declared.ready_command.Ready.{Ready}
-use Rattle.service_view.specs.Puts.{put_fault, made_ready}
 use Rattle.links.specs.declared.fault.ApplyFault.{ApplyFault}
+use Rattle.links.specs.declared.fault.ApplyFault.TheVariants.{Unlicensed, Memory}
 use Rattle.links.specs.declared.fault.RuleCode.{RuleCode}
 use Rattle.links.specs.declared.fault.RuleCode.TheVariants.{E11, E25}
-use Rattle.links.specs.declared.link.Link.{Link}
-use Rattle.links.specs.declared.link.LinkKind.{LinkKind}
-use Rattle.links.specs.declared.link.LinkKind.TheVariants as kind
-use Rattle.links.specs.declared.link.Source.{Source}
-use Rattle.links.specs.Chain.{Chain, chains_of, chain_of_kind, own_at}
-use Rattle.links.specs.Facts.{exp_of}
-use Rattle.links.specs.Payload.{link_chain, root_of}
-use Rattle.links.specs.Made.{made_of, finish, sized, next_token, next_payload, readied}
-use Rattle.links.specs.declared.recording.Made.{Made}
-use Rattle.links.specs.Sources.{passed, ◌>>=◌}
+use Rattle.links.specs.declared.federated.Signed.{Signed}
+use Rattle.links.specs.declared.prepared.Issued.{Issued}
+use Rattle.links.specs.declared.prepared.Plan.TheVariants as plan
+use Rattle.links.specs.declared.source.Source.{Source}
+use Rattle.links.specs.Chain.{Chain, Root, chains_of}
+use Rattle.links.specs.Facts.{facts_of}
+use Rattle.links.specs.Licence.{first_unlicensed, knows_word, is_long, rule_of, prepared_of, Licensed, Prepares}
+use Rattle.links.specs.Prepared.{planned}
+use Rattle.links.specs.Recorded.{recorded}
+use Rattle.links.specs.Sources.{passed}
 use Rattle.links.specs.State.{Content, link_of, made, made_by, source_at, federated_link, token_text}
-use Rattle.links.specs.Licence.{first_unlicensed, licensed_link, knows_word, is_long, rule_of, prepared_of, Licensed, Prepares}
-use Rattle.links.specs.Reads.{Gives}
-use Rattle.links.specs.declared.fault.ApplyFault.TheVariants.{Unlicensed, Memory}
-use Rattle.links.specs.declared.prepared.Prepared.{Prepared}
 use Rattle.links.proofs.Chains.{length-chains_of}
+use Rattle.links.proofs.Steps.{Gives, federated_chain, recorded_of, signed_by, issued_by, issued_of}
 
--- what the rules say, in the words of the code
-pub record Follows (c : Content) (e : Entry) (link : Link) : Type 0 where
-  pub recorded : link_of c e ≡ Some link
-  pub rule : first_unlicensed c e ≡ first_of (fails_if (is_long c (made c e)) E25 ∷ [])
+-- ---- the chain of the next link
 
-by_words : (c : Content) (x : Exchange) (known : Bool) (source : Result Source RuleCode)
-    → list_all (knows_word c) x.scope ≡ known → source_at c x.provider x.token x.at ≡ source → (link : Link)
-    → passed (fails_if (not known) E11) (source >>= (λ s. Ok (federated_link x.scope x.at s))) ≡ Ok link
-    → Follows c (entry.Federated x) link
-unfolding first_unlicensed
-by_words c x true (Ok s) known source link is = record {
-  recorded = rw source (let same : federated_link x.scope x.at s ≡ link = cc is in ap (λ (l : Link). Some l) same);
-  rule = rw (known, source) refl;
-}
-by_words c x true (Err rule) known source link is = absurd (cc is)
-by_words c x false source' known source link is = absurd (cc is)
+pub made_source : (c : Content) (x : Exchange) (source : Source) → source_at c x.provider x.token x.at ≡ Ok source → made c (entry.Federated x) ≡ Some (federated_chain c x source)
+made_source c x source is =
+    let link : link_of c (entry.Federated x) ≡ Some (federated_link x.scope x.at source) = ap (λ (r : Result Source RuleCode). option_map (federated_link x.scope x.at) (result_ok r)) is in
+    ap (made_by c) link ∙ ap (λ (n : ℕ). Some (Root (record { number = n; at = x.at; words = x.scope }) source)) (length-chains_of c.links)
 
-pub follows : (c : Content) (x : Exchange) (link : Link) → licensed_link c x ≡ Ok link → Follows c (entry.Federated x) link
-unfolding licensed_link
-follows c x link is = by_words c x (list_all (knows_word c) x.scope) (source_at c x.provider x.token x.at) refl refl link is
+abbrev signed_text : Content → Chain → List ℕ
+signed_text c chain = compact c.key (payload_text c.issuer (facts_of chain))
 
-refused_by : (c : Content) (x : Exchange) (known : Bool) (source : Result Source RuleCode)
-    → list_all (knows_word c) x.scope ≡ known → source_at c x.provider x.token x.at ≡ source → (rule : RuleCode)
-    → passed (fails_if (not known) E11) (source >>= (λ s. Ok (federated_link x.scope x.at s))) ≡ Err rule
-    → first_unlicensed c (entry.Federated x) ≡ Some rule
-unfolding first_unlicensed
-refused_by c x true (Ok s) known source rule is = absurd (cc is)
-refused_by c x true (Err fault) known source rule is =
-    rw (known, source) (let same : fault ≡ rule = cc is in ap (λ (r : RuleCode). Some r) same)
-refused_by c x false source' known source rule is =
-    rw known (let same : E11 ≡ rule = cc is in ap (λ (r : RuleCode). Some r) same)
-
-pub refused : (c : Content) (x : Exchange) (rule : RuleCode) → licensed_link c x ≡ Err rule → first_unlicensed c (entry.Federated x) ≡ Some rule
-unfolding licensed_link
-refused c x rule is = refused_by c x (list_all (knows_word c) x.scope) (source_at c x.provider x.token x.at) refl refl rule is
-
-next_is : (n : ℕ) (chains : List (Option Chain)) (link : Link) (k : LinkKind) → length chains ≡ n → link.kind ≡ k
-    → chain_of_kind (own_at (length chains) link) chains k ≡ Some (root_of (own_at n link) k)
-next_is n chains link (kind.Federated source) size is = ap (λ (m : ℕ). Some (root_of (own_at m link) (kind.Federated source))) size
-
--- the chain of the next link
-pub made_is : (c : Content) (e : Entry) (link : Link) → link_of c e ≡ Some link → made c e ≡ Some (link_chain (length c.links) link)
-made_is c e link is = ap (made_by c) is ∙ next_is (length c.links) (chains_of c.links) link link.kind (length-chains_of c.links) refl
-
--- what was made, as what is prepared
-abbrev pub as_prepared : Entry → Made → Prepared
-as_prepared e made = record { entry = e; ready = None; link = Some made.link; payload = Some made.payload; token = Some made.token; exp = Some made.exp }
-
-token_by : (c : Content) (x : Exchange) (link : Link) → Follows c (entry.Federated x) link → (long : Bool) → nat_lt 8192 (length (next_token c link)) ≡ long
-    → (made : Made) → ((if long then Err E25 else Ok (next_token c link)) >>= (λ token. finish c link token)) ≡ Ok made → (as_prepared (entry.Federated x) made ≡ prepared_of c (entry.Federated x)) × Licensed c (entry.Federated x)
+text_is : (c : Content) (chain : Chain) → token_text c chain ≡ signed_text c chain
 unfolding token_text
-token_by c x link fits true long made is = absurd (cc is)
-token_by c x link fits false long made is =
-    let chain = made_is c (entry.Federated x) link fits.recorded in
-    let same : record {
-      link = link;
-      payload = next_payload c link;
-      token = next_token c link;
-      exp = exp_of (link_chain (length c.links) link);
-    } ≡ made = cc is in
-    (subst (λ (m : Made). as_prepared (entry.Federated x) m ≡ prepared_of c (entry.Federated x)) same (rw (chain, fits.recorded) refl), fits.rule ∙ rw (chain, long) refl)
+text_is c chain = refl
 
-made_link : (c : Content) (x : Exchange) (r : Result Link RuleCode) → licensed_link c x ≡ r → (made : Made)
-    → (r >>= (λ link. sized (next_token c link) >>= (λ token. finish c link token))) ≡ Ok made → (as_prepared (entry.Federated x) made ≡ prepared_of c (entry.Federated x)) × Licensed c (entry.Federated x)
-made_link c x (Ok link) licensed made is = token_by c x link (follows c x link licensed) (nat_lt 8192 (length (next_token c link))) refl made is
-made_link c x (Err rule) licensed made is = absurd (cc is)
+long_is : (c : Content) (x : Exchange) (source : Source) (long : Bool) → source_at c x.provider x.token x.at ≡ Ok source
+    → nat_lt 8192 (length (signed_text c (federated_chain c x source))) ≡ long → is_long c (made c (entry.Federated x)) ≡ long
+long_is c x source long is size =
+    ap (is_long c) (made_source c x source is) ∙ ap (λ (t : List ℕ). nat_lt 8192 (length t)) (text_is c (federated_chain c x source)) ∙ size
 
-pub prepares : (c : Content) (x : Exchange) (made : Made) → made_of c x ≡ Ok made → (as_prepared (entry.Federated x) made ≡ prepared_of c (entry.Federated x)) × Licensed c (entry.Federated x)
-unfolding made_of
-prepares c x made is = made_link c x (licensed_link c x) refl made is
+-- the exchange's rules, once its words and its source are known
+ruled : (c : Content) (x : Exchange) (source : Source) (long : Bool) → list_all (knows_word c) x.scope ≡ true → source_at c x.provider x.token x.at ≡ Ok source
+    → nat_lt 8192 (length (signed_text c (federated_chain c x source))) ≡ long → first_unlicensed c (entry.Federated x) ≡ first_of (fails_if long E25 ∷ [])
+unfolding first_unlicensed
+ruled c x source long known is size = rw (known, is, long_is c x source long is size) refl
 
-long_by : (c : Content) (x : Exchange) (link : Link) → Follows c (entry.Federated x) link → (long : Bool) → nat_lt 8192 (length (next_token c link)) ≡ long
-    → (rule : RuleCode) → ((if long then Err E25 else Ok (next_token c link)) >>= (λ token. finish c link token)) ≡ Err rule → first_unlicensed c (entry.Federated x) ≡ Some rule
-unfolding token_text
-long_by c x link fits true long rule is =
-    let chain = made_is c (entry.Federated x) link fits.recorded in
-    let same : E25 ≡ rule = cc is in
-    fits.rule ∙ rw (chain, long) (ap (λ (r : RuleCode). Some r) same)
-long_by c x link fits false long rule is = absurd (cc is)
+-- ---- what is prepared
 
-refused_link : (c : Content) (x : Exchange) (r : Result Link RuleCode) → licensed_link c x ≡ r → (rule : RuleCode)
-    → (r >>= (λ link. sized (next_token c link) >>= (λ token. finish c link token))) ≡ Err rule → first_unlicensed c (entry.Federated x) ≡ Some rule
-refused_link c x (Ok link) licensed rule is = long_by c x link (follows c x link licensed) (nat_lt 8192 (length (next_token c link))) refl rule is
-refused_link c x (Err fault) licensed rule is = refused c x rule (licensed ∙ ap (λ (r : RuleCode). Err r) (let same : fault ≡ rule = cc is in same))
+abbrev Fits : Content → Exchange → Issued → Type 0
+Fits c x issued = (planned (plan.Federated x issued) ≡ prepared_of c (entry.Federated x)) × Licensed c (entry.Federated x)
 
-pub forbidden : (c : Content) (x : Exchange) (rule : RuleCode) → made_of c x ≡ Err rule → first_unlicensed c (entry.Federated x) ≡ Some rule
-unfolding made_of
-forbidden c x rule is = refused_link c x (licensed_link c x) refl rule is
+abbrev made_up : Content → Chain → Issued
+made_up c chain = record { recorded = recorded chain; payload = payload_text c.issuer (facts_of chain); token = signed_text c chain }
 
-pub refused_at : (c : Content) (x : Exchange) (fault : ApplyFault) → Gives (λ (made : Made). made) (Err fault) (made_of c x) → Prepares c (entry.Federated x) (Err fault)
-refused_at c x (Unlicensed rule) is = forbidden c x rule is
+planned_is : (c : Content) (x : Exchange) (source : Source) → source_at c x.provider x.token x.at ≡ Ok source
+    → planned (plan.Federated x (made_up c (federated_chain c x source))) ≡ prepared_of c (entry.Federated x)
+planned_is c x source is = rw (made_source c x source is, text_is c (federated_chain c x source)) refl
+
+fits_by : (c : Content) (x : Exchange) (source : Source) (long : Bool) (issued : Issued) → list_all (knows_word c) x.scope ≡ true → source_at c x.provider x.token x.at ≡ Ok source
+    → nat_lt 8192 (length (signed_text c (federated_chain c x source))) ≡ long
+    → ((if long then Err E25 else Ok (record { payload = payload_text c.issuer (facts_of (federated_chain c x source)); token = signed_text c (federated_chain c x source) }))
+        >>= (λ (signed : Signed). Ok (record { recorded = recorded (federated_chain c x source); payload = signed.payload; token = signed.token }))) ≡ Ok issued → Fits c x issued
+fits_by c x source true issued known is size ok = absurd (cc ok)
+fits_by c x source false issued known is size ok =
+    let same : made_up c (federated_chain c x source) ≡ issued = cc ok in
+    (subst (λ (i : Issued). planned (plan.Federated x i) ≡ prepared_of c (entry.Federated x)) same (planned_is c x source is), ruled c x source false known is size)
+
+fits_source : (c : Content) (x : Exchange) (known : Bool) (source : Result Source RuleCode) (issued : Issued) → list_all (knows_word c) x.scope ≡ known → source_at c x.provider x.token x.at ≡ source
+    → (passed (fails_if (not known) E11) (source >>= (λ s. Ok (recorded (federated_chain c x s)))) >>= (λ link. issued_by c link)) ≡ Ok issued → Fits c x issued
+fits_source c x true (Ok s) issued known is ok = fits_by c x s (nat_lt 8192 (length (signed_text c (federated_chain c x s)))) issued known is refl ok
+fits_source c x true (Err rule) issued known is ok = absurd (cc ok)
+fits_source c x false source issued known is ok = absurd (cc ok)
+
+pub prepares : (c : Content) (x : Exchange) (issued : Issued) → issued_of c x ≡ Ok issued → Fits c x issued
+prepares c x issued ok = fits_source c x (list_all (knows_word c) x.scope) (source_at c x.provider x.token x.at) issued refl refl ok
+
+-- ---- what is refused
+
+long_by : (c : Content) (x : Exchange) (source : Source) (long : Bool) (rule : RuleCode) → list_all (knows_word c) x.scope ≡ true → source_at c x.provider x.token x.at ≡ Ok source
+    → nat_lt 8192 (length (signed_text c (federated_chain c x source))) ≡ long
+    → ((if long then Err E25 else Ok (record { payload = payload_text c.issuer (facts_of (federated_chain c x source)); token = signed_text c (federated_chain c x source) }))
+        >>= (λ (signed : Signed). Ok (record { recorded = recorded (federated_chain c x source); payload = signed.payload; token = signed.token }))) ≡ Err rule → first_unlicensed c (entry.Federated x) ≡ Some rule
+long_by c x source true rule known is size err = let same : E25 ≡ rule = cc err in ruled c x source true known is size ∙ ap (λ (r : RuleCode). Some r) same
+long_by c x source false rule known is size err = absurd (cc err)
+
+refused_by : (c : Content) (x : Exchange) (known : Bool) (source : Result Source RuleCode) (rule : RuleCode) → list_all (knows_word c) x.scope ≡ known → source_at c x.provider x.token x.at ≡ source
+    → (passed (fails_if (not known) E11) (source >>= (λ s. Ok (recorded (federated_chain c x s)))) >>= (λ link. issued_by c link)) ≡ Err rule → first_unlicensed c (entry.Federated x) ≡ Some rule
+unfolding first_unlicensed
+refused_by c x true (Ok s) rule known is err = long_by c x s (nat_lt 8192 (length (signed_text c (federated_chain c x s)))) rule known is refl err
+refused_by c x true (Err fault) rule known is err = let same : fault ≡ rule = cc err in rw (known, is) (ap (λ (r : RuleCode). Some r) same)
+refused_by c x false source rule known is err = let same : E11 ≡ rule = cc err in rw known (ap (λ (r : RuleCode). Some r) same)
+
+pub refused_at : (c : Content) (x : Exchange) (fault : ApplyFault) → Gives (λ (issued : Issued). issued) (Err fault) (issued_of c x) → Prepares c (entry.Federated x) (Err fault)
+refused_at c x (Unlicensed rule) is = refused_by c x (list_all (knows_word c) x.scope) (source_at c x.provider x.token x.at) rule refl refl is
 refused_at c x Memory is = tt
 
 -- ---- commands
 
-abbrev pub put_prepared : Command → Ready → Prepared
-put_prepared command ready = record { entry = entry.Put command; ready = Some ready; link = None; payload = None; token = None; exp = None }
+back : (command : Command) → command_of (made_ready command) ≡ command
+back (command.Pool pool disabled) = refl
+back (command.Account account disabled) = refl
+back (command.Role role permissions) = refl
+back (command.Scope word permissions) = refl
+back (command.Policy resource bindings) = refl
 
-readied_by : (c : Content) (command : Command) (fault : Option PutFault) → put_fault c.view command ≡ fault → (ready : Ready) → readied fault command ≡ Ok ready
-    → (put_prepared command ready ≡ prepared_of c (entry.Put command)) × Licensed c (entry.Put command)
+pub put_prepares : (c : Content) (command : Command) (ready : Ready) → ready ≡ made_ready command → put_fault c.view command ≡ None
+    → (planned (plan.Put ready) ≡ prepared_of c (entry.Put command)) × Licensed c (entry.Put command)
 unfolding first_unlicensed
-readied_by c command None none ready is =
-    let same : made_ready command ≡ ready = cc is in
-    (ap (put_prepared command) (sym same), ap (λ (f : Option PutFault). option_map rule_of f) none)
-readied_by c command (Some fault) some ready is = absurd (cc is)
+put_prepares c command ready is none =
+    let same : command_of ready ≡ command = ap command_of is ∙ back command in
+    (ap (λ (k : Command). prepared_of c (entry.Put k)) same, ap (λ (f : Option PutFault). option_map rule_of f) none)
 
-pub put_prepares : (c : Content) (command : Command) (ready : Ready) → readied (put_fault c.view command) command ≡ Ok ready
-    → (put_prepared command ready ≡ prepared_of c (entry.Put command)) × Licensed c (entry.Put command)
-put_prepares c command ready is = readied_by c command (put_fault c.view command) refl ready is
-
-put_refused_by : (c : Content) (command : Command) (fault : Option PutFault) → put_fault c.view command ≡ fault → (rule : RuleCode) → readied fault command ≡ Err rule
-    → first_unlicensed c (entry.Put command) ≡ Some rule
+pub put_refused : (c : Content) (command : Command) (fault : PutFault) → put_fault c.view command ≡ Some fault → first_unlicensed c (entry.Put command) ≡ Some (rule_of fault)
 unfolding first_unlicensed
-put_refused_by c command None none rule is = absurd (cc is)
-put_refused_by c command (Some fault) some rule is =
-    let same : rule_of fault ≡ rule = cc is in
-    ap (λ (f : Option PutFault). option_map rule_of f) some ∙ ap (λ (r : RuleCode). Some r) same
-
-pub put_refused : (c : Content) (command : Command) (fault : ApplyFault) → Gives (λ (ready : Ready). ready) (Err fault) (readied (put_fault c.view command) command) → Prepares c (entry.Put command) (Err fault)
-put_refused c command (Unlicensed rule) is = put_refused_by c command (put_fault c.view command) refl rule is
-put_refused c command Memory is = tt
+put_refused c command fault is = ap (λ (f : Option PutFault). option_map rule_of f) is

@@ -1,32 +1,30 @@
--- A state that is replayed stays so.
-use Rattle.std.proofs.Common.{◌≡◌, List, [], ◌∷◌, ◌++◌, refl, sym, ◌∙◌, ap, subst}
-use Rattle.std.specs.Prelude.{Option}
+-- Lawful journals with one entry more.
+use Rattle.std.proofs.Common.{◌≡◌, ℕ, List, [], ◌∷◌, ◌++◌, refl, ap, ◌∙◌, sym, subst}
 use Rattle.std.specs.List.{AllByRecursion}
 use Rattle.links.specs.declared.entry.Entry.{Entry}
-use Rattle.links.specs.declared.link.Link.{Link}
-use Rattle.links.specs.State.{Content, after, state_after, origin, IsReplayed, link_of, with_link, placed, ready_of}
-use Rattle.service_view.specs.View.{View}
+use Rattle.links.specs.Entries.{IsEntry}
+use Rattle.links.specs.Licence.{Licensed, LawfulFrom, Reached}
+use Rattle.links.specs.State.{Content, after, start_of, state_after}
 
-state_after-last : (c : Content) (es : List Entry) (e : Entry) → state_after c (es ++ e ∷ []) ≡ after (state_after c es) e
-state_after-last c [] e = refl
-state_after-last c (x ∷ es) e = state_after-last (after c x) es e
+pub state_after-append : (c : Content) (xs ys : List Entry) → state_after c (xs ++ ys) ≡ state_after (state_after c xs) ys
+state_after-append c [] ys = refl
+state_after-append c (x ∷ xs) ys = state_after-append (after c x) xs ys
 
-pub replayed-after : (c : Content) (e : Entry) → IsReplayed c → IsReplayed (after c e)
-replayed-after c e is = ap (λ (s : Content). after s e) is ∙ sym (state_after-last (origin c) c.entries e)
+-- a lawful journal, and an entry of its form that the state behind it licenses
+pub lawful-last : (c : Content) (journal : List Entry) (e : Entry) → LawfulFrom c journal → IsEntry e → Licensed (state_after c journal) e → LawfulFrom c (journal ++ e ∷ [])
+lawful-last c [] e lawful form licensed = ((form, licensed), tt)
+lawful-last c (x ∷ journal) e lawful form licensed = (lawful.0, lawful-last (after c x) journal e lawful.1 form licensed)
 
--- with this view, these entries and links in place of its own
-abbrev pub having : Content → View → List Entry → List Link → Content
-having c view entries links = record { issuer = c.issuer; key = c.key; start = c.start; view = view; entries = entries; links = links }
+pub reached-after : (c : Content) (e : Entry) → Reached c → IsEntry e → Licensed c e → Reached (after c e)
+reached-after c e is form licensed = record {
+  config = is.config;
+  formed = is.formed;
+  journal = is.journal ++ e ∷ [];
+  lawful = lawful-last (start_of is.config) is.journal e is.lawful form (subst (λ (k : Content). Licensed k e) is.content licensed);
+  content = ap (λ (k : Content). after k e) is.content ∙ sym (state_after-append (start_of is.config) is.journal (e ∷ []));
+}
 
-pub pushed : (c : Content) (e : Entry) (view : View) (entries : List Entry) (links : List Link) (link : Option Link) → IsReplayed c → link ≡ link_of c e
-    → view ≡ placed c.view (ready_of e) → entries ≡ c.entries ++ e ∷ [] → links ≡ with_link c.links link → IsReplayed (having c view entries links)
-pushed c e view entries links link is recorded put more ls =
-    let links_are : links ≡ with_link c.links (link_of c e) = ls ∙ ap (λ (l : Option Link). with_link c.links l) recorded in
-    subst (λ (l : List Link). IsReplayed (having c view entries l)) (sym links_are)
-    (subst (λ (es : List Entry). IsReplayed (having c view es (with_link c.links (link_of c e)))) (sym more)
-    (subst (λ (v : View). IsReplayed (having c v (c.entries ++ e ∷ []) (with_link c.links (link_of c e)))) (sym put) (replayed-after c e is)))
-
--- good links, and one more
+-- one more with what all have
 pub good-pushed : {A : Type 0} (P : A → Type 0) (xs : List A) (x : A) → AllByRecursion P xs → P x → AllByRecursion P (xs ++ x ∷ [])
 good-pushed P [] x all is = (is, tt)
 good-pushed P (y ∷ ys) x all is = (all.0, good-pushed P ys x all.1 is)

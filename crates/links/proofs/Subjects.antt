@@ -5,7 +5,7 @@ use Rattle.std.proofs.lemmas.Bool.{and_from, ltb-true, ltb-false, le-leb}
 use Rattle.serde_json.specs.Data as json
 use Rattle.serde_json.specs.Find.{as_i64}
 use Rattle.json_text.specs.Clean.{HasUtf8, MembersHaveUtf8}
-use Rattle.json_text.specs.Forms.{has_size}
+use Rattle.base_types.specs.Forms.{has_size}
 use Rattle.cel_values.specs.declared.value.MapEntry.{MapEntry}
 use Rattle.cel_values.specs.declared.value.Value.{Value, out-Value}
 use Rattle.cel_values.specs.declared.value.Value.TheOpen.{Value-F}

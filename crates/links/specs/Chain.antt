@@ -1,9 +1,16 @@
 -- The recorded links, and the chain of each: the link together with the links that it was made from.
 use Rattle.std.specs.Prelude.{ℕ, List, [], ◌∷◌, ◌++◌, length, Option, None, Some, slice_get}
-use Rattle.links.specs.declared.link.Link.{Link}
-use Rattle.links.specs.declared.link.LinkKind.{LinkKind}
-use Rattle.links.specs.declared.link.LinkKind.TheVariants.{Federated}
-use Rattle.links.specs.declared.link.Source.{Source}
+use Rattle.links.specs.declared.source.Source.{Source}
+
+-- what a link was made from
+pub data Kind : Type 0 where
+  Federated : Source → Kind
+
+-- a recorded link
+pub record Link : Type 0 where
+  pub at : ℕ
+  pub words : List (List ℕ)
+  pub kind : Kind
 
 -- what each link has of its own, whatever its kind
 pub record Own : Type 0 where
@@ -27,7 +34,7 @@ abbrev pub chain_at : List (Option Chain) → ℕ → Option Chain
 chain_at chains n = joined (slice_get chains n)
 
 -- the chain of a link of this kind, from those of the links before it
-abbrev pub chain_of_kind : Own → List (Option Chain) → LinkKind → Option Chain
+abbrev pub chain_of_kind : Own → List (Option Chain) → Kind → Option Chain
 chain_of_kind o chains (Federated source) = Some (Root o source)
 
 -- what link n has of its own

@@ -1,21 +1,19 @@
 -- What a link is and carries: recursion over the links that it was made from.
-use Rattle.std.specs.Prelude.{ℕ, ◌+◌, min, List, [], ◌∷◌, ◌++◌, codes}
+use Rattle.std.specs.Prelude.{ℕ, ◌+◌, min, List, [], ◌∷◌}
 use Rattle.iam_names.specs.declared.pool_name.PoolName.{PoolName}
 use Rattle.iam_names.specs.declared.who.Who.{Who}
 use Rattle.iam_names.specs.declared.who.Who.TheVariants.{Outside, Account}
-use Rattle.iam_names.specs.PoolName.{pool_path}
+use Rattle.access_token.specs.declared.facts.Facts.{Facts}
+use Rattle.access_token.specs.Facts.{name_of}
 use Rattle.links.specs.Chain.{Chain, Root, own}
 
--- the name that a token shows as its subject
-abbrev pub name_of : Who → List ℕ
-name_of (Outside pool identity) = codes "principal://" ++ (pool_path pool ++ (codes "/subject/" ++ identity.subject))
-name_of (Account account) = codes "serviceAccount:" ++ account
-
+-- the moment from which on the link isn't live: that of the outside token, and at most 3,600 seconds after the exchange
 abbrev pub exp_of : Chain → ℕ
 exp_of (Root o source) = min source.exp (o.at + 3600)
 
+-- the principal that the link speaks for
 abbrev pub who_of : Chain → Who
-who_of (Root o source) = Outside source.pool source.identity
+who_of (Root o source) = source.who
 
 -- the actors' names, the newest first
 abbrev pub act_of : Chain → List (List ℕ)
@@ -25,39 +23,37 @@ act_of (Root o source) = []
 abbrev pub may_act_of : Chain → List (List ℕ)
 may_act_of (Root o source) = source.may_act
 
+-- how many links there are on the longest way to an outside token
 abbrev pub depth_of : Chain → ℕ
 depth_of (Root o source) = 1
 
-abbrev pub pools_of : Chain → List PoolName
-pools_of (Root o source) = source.pool ∷ []
+-- the pool of an identity
+abbrev pub pools_in : Who → List PoolName
+pools_in (Outside pool identity) = pool ∷ []
+pools_in (Account account) = []
 
+-- the pools of the outside tokens
+abbrev pub pools_of : Chain → List PoolName
+pools_of (Root o source) = pools_in source.who
+
+-- the service accounts that were impersonated
 abbrev pub accounts_of : Chain → List (List ℕ)
 accounts_of (Root o source) = []
 
+-- the scope words of each link, its own last
 abbrev pub scopes_of : Chain → List (List (List ℕ))
 scopes_of (Root o source) = o.words ∷ []
 
--- All that a token of the link says, beside the issuer. Its `scope` is the last of `scopes`, and its `sub` the name
--- of `who`. No link has a boundary yet.
-pub record Facts : Type 0 where
-  pub number : ℕ
-  pub at : ℕ
-  pub exp : ℕ
-  pub who : Who
-  pub act : List (List ℕ)
-  pub may_act : List (List ℕ)
-  pub pools : List PoolName
-  pub accounts : List (List ℕ)
-  pub scopes : List (List (List ℕ))
-
+-- All that a token of the link says, beside the issuer. Its `sub` is the name of the principal.
 unfoldable pub facts_of : Chain → Facts
 facts_of chain = record {
   number = (own chain).number;
-  at = (own chain).at;
+  sub = name_of (who_of chain);
+  iat = (own chain).at;
   exp = exp_of chain;
-  who = who_of chain;
   act = act_of chain;
   may_act = may_act_of chain;
+  who = who_of chain;
   pools = pools_of chain;
   accounts = accounts_of chain;
   scopes = scopes_of chain;

@@ -1,7 +1,7 @@
 -- Which entries a state licenses.
 use Rattle.std.specs.Prelude.{◌≡◌, ℕ, Bool, true, not, List, [], ◌∷◌, length, Option, None, Some, option_map, nat_lt, Result, Ok, Err, ⊤}
 use Rattle.std.specs.List.{list_all}
-use Rattle.json_text.specs.Rules.{fails_if, first_of}
+use Rattle.base_types.specs.Rules.{fails_if, first_of}
 use Rattle.links.specs.declared.entry.Entry.{Entry}
 use Rattle.links.specs.declared.entry.Entry.TheVariants as entry
 use Rattle.links.specs.declared.entry.Exchange.{Exchange}
@@ -9,13 +9,15 @@ use Rattle.links.specs.declared.fault.RuleCode.{RuleCode}
 use Rattle.links.specs.declared.fault.RuleCode.TheVariants.{E11, E25, A4, A6}
 use Rattle.links.specs.declared.fault.ApplyFault.{ApplyFault}
 use Rattle.links.specs.declared.fault.ApplyFault.TheVariants.{Unlicensed, Memory}
-use Rattle.links.specs.declared.link.Link.{Link}
-use Rattle.links.specs.declared.prepared.Prepared.{Prepared}
+use Rattle.access_token.specs.Payload.{payload_text}
+use Rattle.service_config.specs.declared.config.Config.{Config}
+use Rattle.service_config.specs.Formed.{IsFormedConfig}
 use Rattle.links.specs.Chain.{Chain}
-use Rattle.links.specs.Facts.{facts_of, exp_of}
-use Rattle.links.specs.Payload.{payload_text}
-use Rattle.links.specs.Sources.{◌>>=◌, passed}
-use Rattle.links.specs.State.{Content, link_of, ready_of, made, source_at, federated_link, token_text, after}
+use Rattle.links.specs.Entries.{IsEntry}
+use Rattle.links.specs.Facts.{facts_of}
+use Rattle.links.specs.Prepared.{PreparedEntry}
+use Rattle.links.specs.Recorded.{recorded}
+use Rattle.links.specs.State.{Content, start_of, content_of, made, source_at, token_text, after}
 use Rattle.allow_policy.specs.Granting.{knows_scope}
 use Rattle.allow_policy.specs.declared.put_fault.PutFault.{PutFault}
 use Rattle.allow_policy.specs.declared.put_fault.PutFault.TheVariants as put
@@ -33,15 +35,11 @@ abbrev pub is_long : Content → Option Chain → Bool
 is_long c None = true
 is_long c (Some chain) = nat_lt 8192 (length (token_text c chain))
 
--- the link that an exchange would record, or the first rule that comes before its token
-unfoldable pub licensed_link : Content → Exchange → Result Link RuleCode
-licensed_link c x =
-    passed (fails_if (not (list_all (knows_word c) x.scope)) E11) (source_at c x.provider x.token x.at >>= (λ source. Ok (federated_link x.scope x.at source)))
-
 -- the code of what forbids a command
 abbrev pub rule_of : PutFault → RuleCode
 rule_of put.UnknownRole = A4
-rule_of fault = A6
+rule_of put.Limit = A6
+rule_of put.Memory = A6
 
 -- The first rule that forbids recording the entry, or none.
 unfoldable pub first_unlicensed : Content → Entry → Option RuleCode
@@ -54,24 +52,34 @@ first_unlicensed c (entry.Federated x) = first_of (
 abbrev pub Licensed : Content → Entry → Type 0
 Licensed c e = first_unlicensed c e ≡ None
 
--- each entry was licensed by the state of the entries before it
-abbrev pub Lawful : Content → List Entry → Type 0
-Lawful c [] = ⊤
-Lawful c (e ∷ es) = Licensed c e × Lawful (after c e) es
+-- each entry has its form, and was licensed by the state of the entries before it
+abbrev pub LawfulFrom : Content → List Entry → Type 0
+LawfulFrom c [] = ⊤
+LawfulFrom c (e ∷ es) = (IsEntry e × Licensed c e) × LawfulFrom (after c e) es
 
--- what an entry that was prepared will record, and what its token says
-abbrev pub prepared_of : Content → Entry → Prepared
+-- a journal under a configuration
+abbrev pub Lawful : Config → List Entry → Type 0
+Lawful config journal = LawfulFrom (start_of config) journal
+
+-- The content is the one that some lawful journal leaves under some configuration.
+pub record Reached (c : Content) : Type 0 where
+  pub config : Config
+  pub formed : IsFormedConfig config
+  pub journal : List Entry
+  pub lawful : Lawful config journal
+  pub content : c ≡ content_of config journal
+
+-- the entry, with what is held of the link that it will record, and what its token says
+abbrev pub prepared_of : Content → Entry → PreparedEntry
 prepared_of c e = record {
   entry = e;
-  ready = ready_of e;
-  link = link_of c e;
+  recorded = option_map recorded (made c e);
   payload = option_map (λ chain. payload_text c.issuer (facts_of chain)) (made c e);
   token = option_map (token_text c) (made c e);
-  exp = option_map exp_of (made c e);
 }
 
 -- The entry is prepared, or the first rule forbids it.
-abbrev pub Prepares : Content → Entry → Result Prepared ApplyFault → Type 0
+abbrev pub Prepares : Content → Entry → Result PreparedEntry ApplyFault → Type 0
 Prepares c e (Ok prepared) = (prepared ≡ prepared_of c e) × Licensed c e
 Prepares c e (Err (Unlicensed rule)) = first_unlicensed c e ≡ Some rule
 Prepares c e (Err Memory) = ⊤

@@ -2,7 +2,8 @@
 use Rattle.std.specs.Prelude.{ℕ, List, [], ◌∷◌, ◌++◌, length, codes, Bool, not, ◌||◌, Option, None, Some, option_and_then, nat_lt, Result, Ok, Err, if◌then◌else◌}
 use Rattle.std.specs.List.{list_any}
 use Rattle.std.specs.Str.{bytes_eq}
-use Rattle.json_text.specs.Rules.{fails_if, first_of}
+use Rattle.base_types.specs.Steps.{◌>>=◌}
+use Rattle.base_types.specs.Rules.{fails_if, first_of}
 use Rattle.hmac_jws.specs.Verified.{first_jws_fault, payload_of}
 use Rattle.hmac_jws.specs.declared.fault.JwsFault.{JwsFault}
 use Rattle.cel_values.specs.declared.value.Value.{Value, out-Value}
@@ -14,23 +15,15 @@ use Rattle.wif_claims.specs.declared.claims.When.{When}
 use Rattle.wif_claims.specs.declared.claims.When.TheVariants.{Live, Expired as IsExpired, NotYet as IsNotYet}
 use Rattle.wif_claims.specs.Payload.{claims_of}
 use Rattle.wif_claims.specs.Timing.{timing_of}
-use Rattle.iam_names.specs.declared.audience.Audience.{Audience}
+use Rattle.iam_names.specs.declared.who.Who.{Who}
+use Rattle.iam_names.specs.declared.who.Who.TheVariants.{Outside}
+use Rattle.service_config.specs.Configuration.{provider_name}
 use Rattle.iam_names.specs.Audience.{audience_text}
-use Rattle.links.specs.declared.config.StartProvider.{StartProvider}
+use Rattle.service_config.specs.declared.config.StartProvider.{StartProvider}
 use Rattle.links.specs.declared.fault.MapFault.TheVariants.{Issuer, Audience as NoAudience, Expired, NotYet, Subject, TooLong}
 use Rattle.links.specs.declared.fault.RuleCode.{RuleCode}
 use Rattle.links.specs.declared.fault.RuleCode.TheVariants.{E16, E17, E18, E19}
-use Rattle.links.specs.declared.link.Source.{Source}
-
--- what a step gives, or the rule that it fails
-infixl 10 ◌>>=◌
-abbrev pub ◌>>=◌ : {X Y : Type 0} → Result X RuleCode → (X → Result Y RuleCode) → Result Y RuleCode
-(Ok x) >>= next = next x
-(Err rule) >>= next = Err rule
-
--- the provider's full name
-abbrev pub provider_name : StartProvider → Audience
-provider_name provider = record { pool = provider.pool; provider = provider.id }
+use Rattle.links.specs.declared.source.Source.{Source}
 
 -- ---- the signature and the claims
 
@@ -92,28 +85,31 @@ subject_by (Some subject) =
 
 -- the first rule of the provider that comes before the identity
 unfoldable pub first_admission_fault : StartProvider → Claims → ℕ → Option RuleCode
-first_admission_fault provider claims at = first_of (
+first_admission_fault provider claims now = first_of (
     fails_if (not (bytes_eq claims.iss provider.issuer)) (E18 Issuer) ∷
     fails_if (not (accepts provider claims.aud)) (E18 NoAudience) ∷
-    timing_fault (timing_of claims at) ∷ [])
+    timing_fault (timing_of claims now) ∷ [])
 
 abbrev pub passed : {X : Type 0} → Option RuleCode → Result X RuleCode → Result X RuleCode
 passed None next = next
 passed (Some rule) next = Err rule
 
--- the mapping of the provider: `google.subject` is `assertion.sub`, and nothing else is mapped
-abbrev pub source_by : StartProvider → Claims → List ℕ → Source
-source_by provider claims subject = record {
-  pool = provider.pool;
-  identity = record { subject = subject; groups = []; attributes = [] };
-  exp = claims.exp;
-  may_act = claims.may_act;
-}
+-- the identity of a subject in the provider's pool: nothing else is mapped
+abbrev pub outside_of : StartProvider → List ℕ → Who
+outside_of provider subject = Outside provider.pool (record { subject = subject; groups = []; attributes = [] })
+
+-- the principal of claims, or the first rule that they fail
+abbrev pub who_of_claims : StartProvider → Claims → ℕ → Result Who RuleCode
+who_of_claims provider claims now =
+    passed (first_admission_fault provider claims now) (subject_by (subject_claim claims) >>= (λ subject. Ok (outside_of provider subject)))
+
+-- what the claims give of a principal
+abbrev pub source_by : Claims → Who → Source
+source_by claims who = record { who = who; exp = claims.exp; may_act = claims.may_act }
 
 unfoldable pub source_of_claims : StartProvider → Claims → ℕ → Result Source RuleCode
-source_of_claims provider claims at =
-    passed (first_admission_fault provider claims at) (subject_by (subject_claim claims) >>= (λ subject. Ok (source_by provider claims subject)))
+source_of_claims provider claims now = who_of_claims provider claims now >>= (λ who. Ok (source_by claims who))
 
--- what the token gives at the moment, or the first rule that it fails
+-- what the subject token gives at the moment, or the first rule that it fails
 unfoldable pub source_of : StartProvider → List ℕ → ℕ → Result Source RuleCode
-source_of provider token at = opened provider.key token >>= (λ payload. claimed_by (claims_of payload) >>= (λ claims. source_of_claims provider claims at))
+source_of provider token now = opened provider.key token >>= (λ payload. claimed_by (claims_of payload) >>= (λ claims. source_of_claims provider claims now))

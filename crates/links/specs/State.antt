@@ -1,37 +1,37 @@
 -- The state that a journal's entries leave.
-use Rattle.std.specs.Prelude.{◌≡◌, ℕ, List, [], ◌∷◌, ◌++◌, Option, None, Some, option_map, not, Result, Ok, Err, if◌then◌else◌}
+use Rattle.std.specs.Prelude.{◌≡◌, ℕ, ◌+◌, List, [], ◌∷◌, ◌++◌, length, Option, None, Some, option_map, not, Result, Ok, Err, if◌then◌else◌}
 use Rattle.std.specs.Result.{result_ok}
 use Rattle.std.specs.Str.{bytes_eq}
+use Rattle.base_types.specs.Rules.{fails_if}
 use Rattle.hmac_jws.specs.Compact.{compact}
 use Rattle.iam_names.specs.declared.audience.Audience.{Audience}
+use Rattle.iam_names.specs.declared.pool_name.PoolName.{PoolName}
 use Rattle.iam_names.specs.Audience.{audience_text}
-use Rattle.links.specs.declared.config.Config.{Config}
-use Rattle.links.specs.declared.config.StartProvider.{StartProvider}
+use Rattle.access_token.specs.Payload.{payload_text}
+use Rattle.service_config.specs.declared.config.Config.{Config}
+use Rattle.service_config.specs.declared.config.StartProvider.{StartProvider}
+use Rattle.service_config.specs.Configuration.{provider_name}
+use Rattle.service_view.specs.declared.ready_command.Ready.{Ready}
+use Rattle.service_view.specs.Puts.{command_of, made_ready}
+use Rattle.service_view.specs.View.{View, start_view, view_after, pool_enabled}
 use Rattle.links.specs.declared.entry.Entry.{Entry}
 use Rattle.links.specs.declared.entry.Entry.TheVariants as entry
 use Rattle.links.specs.declared.fault.RuleCode.{RuleCode}
 use Rattle.links.specs.declared.fault.RuleCode.TheVariants.{E14, E15}
-use Rattle.links.specs.declared.link.Link.{Link}
-use Rattle.links.specs.declared.link.LinkKind.TheVariants as kind
-use Rattle.links.specs.declared.link.Source.{Source}
-use Rattle.links.specs.Chain.{Chain, chains_of, chain_at, next_chain}
+use Rattle.links.specs.declared.source.Source.{Source}
+use Rattle.links.specs.Chain.{Kind, Link, Chain, chains_of, chain_at, next_chain}
 use Rattle.links.specs.Facts.{facts_of}
-use Rattle.links.specs.Payload.{payload_text}
-use Rattle.links.specs.Sources.{◌>>=◌, passed, source_of, provider_name}
-use Rattle.json_text.specs.Rules.{fails_if}
-use Rattle.iam_names.specs.declared.pool_name.PoolName.{PoolName}
-use Rattle.service_view.specs.declared.ready_command.Ready.{Ready}
-use Rattle.service_view.specs.Puts.{command_of, made_ready}
-use Rattle.service_view.specs.View.{View, start_view, view_after, pool_enabled}
+use Rattle.base_types.specs.Steps.{◌>>=◌}
+use Rattle.links.specs.Sources.{passed, source_of}
 
 -- The issuer and the key of the tokens that are issued, the provider that is there from the start, what stands under the
--- names that commands put, the entries, and the links that they recorded.
+-- names that commands put, how many entries there were, and the links that they recorded.
 pub record Content : Type 0 where
   pub issuer : List ℕ
   pub key : List ℕ
   pub start : Option StartProvider
   pub view : View
-  pub entries : List Entry
+  pub count : ℕ
   pub links : List Link
 
 -- the content, and how many entries more there is room for
@@ -42,12 +42,9 @@ pub record Kept : Type 0 where
 abbrev pub pool_of : Option StartProvider → Option PoolName
 pool_of start = option_map (λ provider. provider.pool) start
 
--- the state before the first entry: the provider's pool is there, switched on, and the scope word for all permissions
-abbrev pub state_from : List ℕ → List ℕ → Option StartProvider → Content
-state_from issuer key start = record { issuer = issuer; key = key; start = start; view = start_view (pool_of start); entries = []; links = [] }
-
+-- the state before the first entry: the provider's pool is there, enabled, and the scope word for all permissions
 abbrev pub start_of : Config → Content
-start_of config = state_from config.issuer config.key config.start
+start_of config = record { issuer = config.issuer; key = config.key; start = config.start; view = start_view (pool_of config.start); count = 0; links = [] }
 
 -- the provider of that name
 abbrev pub named : Option StartProvider → Audience → Result StartProvider RuleCode
@@ -56,10 +53,10 @@ named (Some provider) name = if bytes_eq (audience_text (provider_name provider)
 
 -- what the outside token gives, or the first rule that it fails
 abbrev pub source_at : Content → Audience → List ℕ → ℕ → Result Source RuleCode
-source_at c provider token at = named c.start provider >>= (λ p. passed (fails_if (not (pool_enabled c.view p.pool)) E15) (source_of p token at))
+source_at c provider token now = named c.start provider >>= (λ p. passed (fails_if (not (pool_enabled c.view p.pool)) E15) (source_of p token now))
 
 abbrev pub federated_link : List (List ℕ) → ℕ → Source → Link
-federated_link words at source = record { at = at; words = words; kind = kind.Federated source }
+federated_link words at source = record { at = at; words = words; kind = Kind.Federated source }
 
 -- the link that an entry records
 abbrev pub link_of : Content → Entry → Option Link
@@ -75,10 +72,10 @@ abbrev pub ready_of : Entry → Option Ready
 ready_of (entry.Put command) = Some (made_ready command)
 ready_of (entry.Federated x) = None
 
--- what stands under the names behind a command
-abbrev pub placed : View → Option Ready → View
-placed view None = view
-placed view (Some ready) = view_after view (command_of ready)
+-- what stands under the names behind an entry
+abbrev pub view_behind : View → Entry → View
+view_behind view (entry.Put command) = view_after view command
+view_behind view (entry.Federated x) = view
 
 -- the state after an entry
 abbrev pub after : Content → Entry → Content
@@ -86,8 +83,8 @@ after c e = record {
   issuer = c.issuer;
   key = c.key;
   start = c.start;
-  view = placed c.view (ready_of e);
-  entries = c.entries ++ e ∷ [];
+  view = view_behind c.view e;
+  count = c.count + 1;
   links = with_link c.links (link_of c e);
 }
 
@@ -96,13 +93,9 @@ abbrev pub state_after : Content → List Entry → Content
 state_after c [] = c
 state_after c (e ∷ es) = state_after (after c e) es
 
--- the state before the first entry, with the same issuer, key and provider
-abbrev pub origin : Content → Content
-origin c = state_from c.issuer c.key c.start
-
--- the state is the one that its entries leave
-abbrev pub IsReplayed : Content → Type 0
-IsReplayed c = c ≡ state_after (origin c) c.entries
+-- the state of a configuration behind these entries
+abbrev pub content_of : Config → List Entry → Content
+content_of config journal = state_after (start_of config) journal
 
 -- the chain of link n, where there is one
 abbrev pub chain : Content → ℕ → Option Chain

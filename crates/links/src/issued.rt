@@ -5,23 +5,20 @@ ghost use Rattle.hmac_jws.specs.Compact.{compact};
 ghost use Rattle.hmac_jws.specs.declared.fault.JwsFault.{JwsFault};
 ghost use Rattle.json_text.specs.Document.{document, text_at as text_member};
 ghost use Rattle.links.specs.Issued.{issued_link, is_text_of};
-ghost use Rattle.links.specs.State.{chain, token_text};
-ghost use Rattle.links.specs.Payload.{link_chain};
+ghost use Rattle.links.specs.State.{chain};
 
-use crate::payload::write_payload;
-use crate::{Link, State};
-use base_types::Text;
-use hmac_jws::{JwsFault, sign, signed_text_verifies, verify};
+use crate::State;
+use crate::numbered::render;
+use hmac_jws::{JwsFault, signed_text_verifies, verify};
 use json_text::{DocumentFault, read_document, text_at};
 use std::alloc::{AllocError, Global};
 
 /// The number of the link whose token the text is. The token's own words say where to look.
 pub fn find_issued(alloc: Global, state: &State, text: &str) -> Result<Option<u32>, AllocError>
-    requires { length state.now.content.entries < 2 ^ 32 }
     ensures { IfOk result (λ found. found ≡ issued_link state.now.content text.now) }
 {
     // Their contracts say what holds of every state.
-    let (_issuer, _links, _count) = (state.issuer(), state.links(), state.entry_count());
+    let (_reached, _few) = (state.entry_count(), state.link_count());
     let Some(number) = told_number(alloc, state.key(), text)? else {
         return Ok(None);
     };
@@ -79,20 +76,9 @@ fn number_of(text: &str) -> Option<u32>
 fn is_token_of(alloc: Global, state: &State, number: u32, text: &str) -> Result<bool, AllocError>
     ensures { IfOk result (λ same. same ≡ is_text_of state.now.content text.now (chain state.now.content number)) }
 {
-    match state.links().get(number as usize) {
-        Some(link) => {
-            let token = render(alloc, state, number, link)?;
-            Ok(token.as_str() == text)
-        }
-        None => Ok(false),
+    if number >= state.link_count() {
+        return Ok(false);
     }
-}
-
-// The token of a link.
-#[tactic(auto, unfolding(crate::specs::State::token_text))]
-fn render(alloc: Global, state: &State, number: u32, link: &Link) -> Result<Text, AllocError>
-    ensures { IfOk result (λ token. token ≡ token_text state.now.content (link_chain number link.now)) }
-{
-    let payload = write_payload(alloc, state.issuer(), number, link)?;
-    Ok(Text::new(sign(alloc, state.key(), payload.as_str().as_bytes())?))
+    let token = render(alloc, state, number)?;
+    Ok(token.as_str() == text)
 }

@@ -1,41 +1,29 @@
 //! The journal's entries, the links that they record, and the state that they leave.
 #![tactic(auto)]
 
-mod active;
-mod authority;
-mod config;
-#[cfg(test)]
-mod config_tests;
 mod entry;
 mod fault;
+mod federated;
 mod issued;
-mod key;
 mod laws;
-mod link;
 mod numbered;
-mod payload;
 mod prepared;
-mod read_config;
+mod recorded;
 mod recording;
 mod source;
 mod state;
-#[cfg(test)]
-mod tests;
-mod told;
 
-pub use active::write_active;
-pub use authority::is_live;
-pub use config::{Config, ConfigError, StartProvider};
 pub use entry::{Entry, Exchange};
 pub use fault::{ApplyFault, MapFault, RuleCode};
+pub use federated::all_permissions;
 pub use issued::find_issued;
-pub use key::Key;
-pub use laws::{good_link_has_exact_facts, payload_says_its_facts, payload_tells_its_number};
-pub use link::{Link, LinkKind, Source};
-pub use numbered::{exp_of, live, payload_of, words_of};
-pub use payload::{put_text, words_text, write_payload, write_told};
+pub use laws::{
+    each_token_has_its_link, entries_that_follow_change_no_link,
+    issued_for_a_verified_subject_token_alone,
+};
+pub use numbered::{exp_of, facts_of, live, payload_of, render, words_of};
 pub use prepared::Prepared;
-pub use read_config::read_service_config;
-pub use recording::{all_permissions, apply, commit, prepare};
-pub use state::State;
-pub use told::{Bearer, Told};
+pub use recorded::{RecordedKind, RecordedLink};
+pub use recording::{apply, commit, prepare};
+pub use source::Source;
+pub use state::{State, start};

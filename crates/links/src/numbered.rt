@@ -1,53 +1,73 @@
-ghost use Rattle.std.specs.Prelude.{◌≡◌, ◌<◌, ◌^◌, length, Some, IfOk, IfSome};
+ghost use Rattle.std.specs.Prelude.{◌≡◌, ◌<◌, length, Some, IfOk, option_map};
+ghost use Rattle.std.specs.List.{list_all};
+ghost use Rattle.service_view.specs.View.{pool_enabled};
+ghost use Rattle.access_token.specs.Payload.{payload_text};
 ghost use Rattle.links.specs.Authority.{live as lives};
 ghost use Rattle.links.specs.Chain.{own};
-ghost use Rattle.links.specs.Facts.{exp_of as expiry, facts_of};
-ghost use Rattle.links.specs.Payload.{link_chain, payload_text};
-ghost use Rattle.links.specs.State.{chain};
+ghost use Rattle.links.specs.Facts.{exp_of as expiry, facts_of as facts_in};
+ghost use Rattle.links.specs.State.{chain, token_text};
 
-use crate::authority::is_live;
-use crate::payload::write_payload;
-use crate::{Link, State};
+use crate::State;
+use access_token::{Facts, last_words, write_payload};
 use base_types::Text;
-use iam_names::ScopeWord;
+use hmac_jws::sign;
+use iam_names::{PoolName, ScopeWord};
+use service_view::View;
 use std::alloc::{AllocError, Global};
 
-fn link_at(state: &State, number: u32) -> &Link
+/// What the token of a link says.
+pub fn facts_of(state: &State, number: u32) -> &Facts
     requires { number < length state.now.content.links }
-    ensures { chain state.now.content number ≡ Some (link_chain number result.now) }
+    ensures { option_map facts_in (chain state.now.content number) ≡ Some result.now }
 {
-    &state.links()[number as usize]
+    &state.recorded(number).facts
 }
 
-/// Whether the link is live at the moment `at`, in seconds since 1970-01-01T00:00:00Z.
-pub fn live(state: &State, number: u32, at: u64) -> bool
+/// Whether the link is live at the moment `now`, in seconds since 1970-01-01T00:00:00Z: it isn't expired, and the pool of its
+/// outside token is enabled.
+pub fn live(state: &State, number: u32, now: u64) -> bool
     requires { number < length state.now.content.links }
-    ensures { IfSome (chain state.now.content number) (λ found. result ≡ lives state.now.content found at) }
+    ensures { option_map (λ found. lives state.now.content.view found now) (chain state.now.content number) ≡ Some result }
 {
-    is_live(state, link_at(state, number), at)
+    let facts = facts_of(state, number);
+    now < facts.exp && are_enabled(state.view(), facts.pools.as_slice())
+}
+
+fn are_enabled(view: &View, pools: &[PoolName]) -> bool
+    ensures { result ≡ list_all (pool_enabled view.now.content) pools.now }
+{
+    pools.iter().all(|pool| view.is_pool_enabled(pool))
 }
 
 /// The moment from which on the link isn't live.
 pub fn exp_of(state: &State, number: u32) -> u64
     requires { number < length state.now.content.links }
-    ensures { IfSome (chain state.now.content number) (λ found. result ≡ expiry found) }
+    ensures { option_map expiry (chain state.now.content number) ≡ Some result }
 {
-    link_at(state, number).exp()
+    facts_of(state, number).exp
 }
 
 /// The link's own scope words.
 pub fn words_of(state: &State, number: u32) -> &[ScopeWord]
     requires { number < length state.now.content.links }
-    ensures { IfSome (chain state.now.content number) (λ found. result.now ≡ (own found).words) }
+    ensures { option_map (λ found. (own found).words) (chain state.now.content number) ≡ Some result.now }
 {
-    link_at(state, number).words.as_slice()
+    last_words(facts_of(state, number).scopes.as_slice())
 }
 
 /// The payload of the link's token.
 pub fn payload_of(alloc: Global, state: &State, number: u32) -> Result<Text, AllocError>
     requires { number < length state.now.content.links }
-    ensures { IfOk result (λ payload. IfSome (chain state.now.content number) (λ found.
-        payload ≡ payload_text state.now.content.issuer (facts_of found))) }
+    ensures { IfOk result (λ payload. option_map (λ found. payload_text state.now.content.issuer (facts_in found)) (chain state.now.content number) ≡ Some payload) }
 {
-    write_payload(alloc, state.issuer(), number, link_at(state, number))
+    write_payload(alloc, state.issuer(), facts_of(state, number))
+}
+
+/// The text of the link's token.
+pub fn render(alloc: Global, state: &State, number: u32) -> Result<Text, AllocError>
+    requires { number < length state.now.content.links }
+    ensures { IfOk result (λ token. option_map (token_text state.now.content) (chain state.now.content number) ≡ Some token) }
+{
+    let payload = payload_of(alloc, state, number)?;
+    Ok(Text::new(sign(alloc, state.key(), payload.as_str().as_bytes())?))
 }

@@ -1,16 +1,71 @@
-use crate::{Entry, Link};
+use crate::{Exchange, RecordedLink};
 use base_types::Text;
 use service_view::Ready;
+use std::marker::Model;
 
-/// An entry that a state licensed, with all that its recording needs.
+/// What the recording of an entry needs.
+#[derive(Debug, Drop)]
+pub(crate) enum Plan {
+    Put(Ready),
+    Federated {
+        exchange: Exchange,
+        issued: Issued,
+    },
+}
+
+/// A link with its token's payload and text.
+#[derive(Debug, Drop)]
+pub(crate) struct Issued {
+    pub(crate) recorded: RecordedLink,
+    pub(crate) payload: Text,
+    pub(crate) token: Text,
+}
+
+/// An entry that a state licensed, with all that its recording needs. Contracts see the entry, and what is held of the link
+/// that it records, if it records one, with its token's payload and text.
 #[derive(Debug, Drop)]
 pub struct Prepared {
-    pub entry: Entry,
-    /// The command to place, if the entry is one.
-    pub ready: Option<Ready>,
-    /// The link that it records, if it records one, with its token's payload and text, and its expiry.
-    pub link: Option<Link>,
-    pub payload: Option<Text>,
-    pub token: Option<Text>,
-    pub exp: Option<u64>,
+    pub(crate) plan: Plan,
+}
+
+impl Model for Prepared {
+    ghost use Rattle.links.specs.Prepared.{PreparedEntry, planned};
+
+    ghost Value = { PreparedEntry };
+
+    ghost view = { λ p. planned p.plan };
+}
+
+impl Prepared {
+    ghost use Rattle.std.specs.Prelude.{◌≡◌, option_map};
+
+    /// The text of the link's token.
+    pub fn token(&self) -> Option<&str>
+        ensures { option_map (λ text. text.now) result ≡ self.now.token }
+    {
+        match &self.plan {
+            Plan::Put(_) => None,
+            Plan::Federated { issued, .. } => Some(issued.token.as_str()),
+        }
+    }
+
+    /// The payload of the link's token.
+    pub fn payload(&self) -> Option<&str>
+        ensures { option_map (λ text. text.now) result ≡ self.now.payload }
+    {
+        match &self.plan {
+            Plan::Put(_) => None,
+            Plan::Federated { issued, .. } => Some(issued.payload.as_str()),
+        }
+    }
+
+    /// What is held of the link.
+    pub fn recorded(&self) -> Option<&RecordedLink>
+        ensures { option_map (λ recorded. recorded.now) result ≡ self.now.recorded }
+    {
+        match &self.plan {
+            Plan::Put(_) => None,
+            Plan::Federated { issued, .. } => Some(&issued.recorded),
+        }
+    }
 }

@@ -1,23 +1,30 @@
-ghost use Rattle.std.specs.Prelude.{◌≡◌, ◌++◌, ◌||◌, Some, IfOk, IsUtf8, codes, option_map};
-ghost use Rattle.hmac_jws.specs.Verified.{payload_of};
+ghost use Rattle.std.specs.Prelude.{◌≡◌, ◌++◌, ◌||◌, Some, Ok, IfOk, codes, option_map};
 ghost use Rattle.std.specs.List.{list_any};
 ghost use Rattle.std.specs.Str.{bytes_eq};
-ghost use Rattle.wif_claims.specs.Forms.{HasForms};
-ghost use Rattle.links.specs.Exact.{IsGoodSource};
-ghost use Rattle.links.specs.Forms.{IsFormedSource};
-ghost use Rattle.links.specs.Reads.{Gives, Passes};
-ghost use Rattle.links.specs.Sources.{source_of, source_of_claims, first_admission_fault, opened, claimed_by, accepts, is_acceptable, subject_claim, subject_by, text_of_value, value_under, value_in, provider_name, timing_fault};
-ghost use Rattle.wif_claims.specs.Payload.{claims_of};
-ghost use Rattle.wif_claims.specs.Timing.{timing_of};
 ghost use Rattle.iam_names.specs.Audience.{audience_text};
+ghost use Rattle.wif_claims.specs.Payload.{claims_of};
+ghost use Rattle.service_config.specs.Configuration.{provider_name};
+ghost use Rattle.links.specs.Sources.{source_of, source_of_claims, who_of_claims, outside_of, first_admission_fault, opened, claimed_by, is_acceptable, subject_claim, subject_by, text_of_value, value_under, value_in};
+ghost use Rattle.links.proofs.Steps.{Gives, Passes};
 
-use crate::{ApplyFault, MapFault, RuleCode, Source, StartProvider};
+use crate::{ApplyFault, MapFault, RuleCode};
 use base_types::{Items, Text, TextMap};
 use cel_values::{MapEntry, Value};
 use hmac_jws::{JwsFault, Verified, verify};
-use iam_names::Identity;
+use iam_names::{Identity, Who};
+use service_config::StartProvider;
 use std::alloc::{AllocError, Global};
 use wif_claims::{ClaimFault, Claims, When, read_claims, timing};
+
+/// What a subject token gives, read with the provider as it stood then.
+#[derive(Debug, Drop)]
+pub struct Source {
+    pub who: Who,
+    /// Seconds since 1970-01-01T00:00:00Z.
+    pub exp: u64,
+    /// Who may act for the subject, the next one first.
+    pub may_act: Items<Text>,
+}
 
 fn unlicensed(rule: RuleCode) -> ApplyFault
     ensures { result ≡ ApplyFault.Unlicensed rule }
@@ -25,33 +32,19 @@ fn unlicensed(rule: RuleCode) -> ApplyFault
     ApplyFault::Unlicensed { rule }
 }
 
-/// What an outside token gives under the provider at a moment.
+/// What a subject token gives under the provider at a moment.
+#[tactic(auto, unfolding(crate::specs::Sources::source_of))]
 pub(crate) fn read_source(
     alloc: Global,
     provider: &StartProvider,
     token: &str,
-    at: u64,
+    now: u64,
 ) -> Result<Source, ApplyFault>
-    ensures gives { Gives (λ source. source) result (source_of provider.now token.now at) }
-    ensures good { IfOk result IsGoodSource }
-    ensures formed { IfOk result IsFormedSource }
-{
-    source_under(alloc, provider, token, at)
-}
-
-#[tactic(auto, unfolding(crate::specs::Sources::source_of))]
-fn source_under(
-    alloc: Global,
-    provider: &StartProvider,
-    token: &str,
-    at: u64,
-) -> Result<Source, ApplyFault>
-    ensures gives { Gives (λ source. source) result (source_of provider.now token.now at) }
-    ensures good { IfOk result IsGoodSource }
+    ensures { Gives (λ source. source) result (source_of provider.now token.now now) }
 {
     let verified = open(alloc, provider, token)?;
-    let claims = claims_from(alloc, &verified)?;
-    source_from(alloc, provider, claims, at)
+    let claims = claims_from(alloc, verified)?;
+    source_from(alloc, provider, claims, now)
 }
 
 fn open(alloc: Global, provider: &StartProvider, token: &str) -> Result<Verified, ApplyFault>
@@ -64,11 +57,12 @@ fn open(alloc: Global, provider: &StartProvider, token: &str) -> Result<Verified
     }
 }
 
-fn claims_from(alloc: Global, verified: &Verified) -> Result<Claims, ApplyFault>
-    ensures gives { Gives (λ claims. claims) result (claimed_by (claims_of verified.now.payload)) }
-    ensures forms { IfOk result HasForms }
+fn claims_from(alloc: Global, verified: Verified) -> Result<Claims, ApplyFault>
+    ensures { Gives (λ claims. claims) result (claimed_by (claims_of verified.payload)) }
 {
-    match read_claims(alloc, verified.payload.as_slice()) {
+    let read = read_claims(alloc, verified.payload.as_slice());
+    drop(verified);
+    match read {
         Ok(claims) => Ok(claims),
         Err(ClaimFault::Memory) => Err(ApplyFault::Memory),
         Err(fault) => Err(unlicensed(RuleCode::E17(fault))),
@@ -80,25 +74,60 @@ fn source_from(
     alloc: Global,
     provider: &StartProvider,
     claims: Claims,
-    at: u64,
+    now: u64,
 ) -> Result<Source, ApplyFault>
-    requires { HasForms claims }
-    ensures gives { Gives (λ source. source) result (source_of_claims provider.now claims at) }
-    ensures good { IfOk result IsGoodSource }
+    ensures { Gives (λ source. source) result (source_of_claims provider.now claims now) }
 {
-    admit(alloc, provider, &claims, at)?;
-    let subject = subject_of(alloc, &claims)?;
-    let identity = Identity {
-        subject,
-        groups: Items::new(alloc),
-        attributes: TextMap::new(alloc),
-    };
-    Ok(Source {
-        pool: provider.pool.copy(alloc)?,
-        identity,
+    match who_from(alloc, provider, &claims, now) {
+        Ok(who) => Ok(source_by(who, claims)),
+        Err(fault) => {
+            drop(claims);
+            Err(fault)
+        }
+    }
+}
+
+fn source_by(who: Who, claims: Claims) -> Source
+    ensures { result ≡ record { who = who; exp = claims.exp; may_act = claims.may_act } }
+{
+    Source {
+        who,
         exp: claims.exp,
         may_act: claims.may_act,
-    })
+    }
+}
+
+// The principal, where the claims fail no rule.
+fn who_from(
+    alloc: Global,
+    provider: &StartProvider,
+    claims: &Claims,
+    now: u64,
+) -> Result<Who, ApplyFault>
+    ensures { Gives (λ who. who) result (who_of_claims provider.now claims.now now) }
+{
+    admit(alloc, provider, claims, now)?;
+    let subject = subject_of(alloc, claims)?;
+    outside(alloc, provider, subject)
+}
+
+fn outside(alloc: Global, provider: &StartProvider, subject: Text) -> Result<Who, ApplyFault>
+    ensures { Gives (λ who. who) result (Ok (outside_of provider.now subject)) }
+{
+    match provider.pool.copy(alloc) {
+        Ok(pool) => Ok(Who::Outside {
+            pool,
+            identity: Identity {
+                subject,
+                groups: Items::new(alloc),
+                attributes: TextMap::new(alloc),
+            },
+        }),
+        Err(AllocError) => {
+            drop(subject);
+            Err(ApplyFault::Memory)
+        }
+    }
 }
 
 // The rules that come before the identity.
@@ -107,9 +136,9 @@ fn admit(
     alloc: Global,
     provider: &StartProvider,
     claims: &Claims,
-    at: u64,
+    now: u64,
 ) -> Result<(), ApplyFault>
-    ensures { Passes result (first_admission_fault provider.now claims.now at) }
+    ensures { Passes result (first_admission_fault provider.now claims.now now) }
 {
     if claims.iss.as_str() != provider.issuer.as_str() {
         return Err(unlicensed(RuleCode::E18(MapFault::Issuer)));
@@ -118,7 +147,7 @@ fn admit(
     if !accepts_any(alloc, &name, claims.aud.as_slice())? {
         return Err(unlicensed(RuleCode::E18(MapFault::Audience)));
     }
-    match timing(claims, at) {
+    match timing(claims, now) {
         When::Live => Ok(()),
         When::Expired => Err(unlicensed(RuleCode::E18(MapFault::Expired))),
         When::NotYet => Err(unlicensed(RuleCode::E18(MapFault::NotYet))),
@@ -159,8 +188,7 @@ fn is_one_of(text: &str, one: &str, other: &str) -> bool
 
 // A copy of the claim `sub`.
 fn subject_of(alloc: Global, claims: &Claims) -> Result<Text, ApplyFault>
-    ensures gives { Gives (λ subject. subject) result (subject_by (subject_claim claims.now)) }
-    ensures utf8 { IfOk result IsUtf8 }
+    ensures { Gives (λ subject. subject) result (subject_by (subject_claim claims.now)) }
 {
     match value_at(&claims.tree, "sub").and_then(text_in) {
         None => Err(unlicensed(RuleCode::E19(MapFault::Subject))),
@@ -169,8 +197,7 @@ fn subject_of(alloc: Global, claims: &Claims) -> Result<Text, ApplyFault>
 }
 
 fn sized_subject(alloc: Global, subject: &str) -> Result<Text, ApplyFault>
-    ensures gives { Gives (λ subject. subject) result (subject_by (Some subject.now)) }
-    ensures utf8 { IfOk result IsUtf8 }
+    ensures { Gives (λ subject. subject) result (subject_by (Some subject.now)) }
 {
     if subject.is_empty() {
         return Err(unlicensed(RuleCode::E19(MapFault::Subject)));

@@ -1,72 +1,102 @@
-ghost use Rattle.std.specs.Prelude.{◌≡◌, ◌≤◌};
+ghost use Rattle.std.specs.Prelude.{◌≡◌, ◌≤◌, IfOk};
 ghost use Rattle.std.specs.Option.{option_copied};
-ghost use Rattle.links.specs.State.{pool_of as start_pool, placed};
+ghost use Rattle.service_config.specs.Formed.{IsFormedConfig};
+ghost use Rattle.links.specs.State.{pool_of as start_pool, start_of};
 
-use crate::{Entry, Key, Link, StartProvider};
+use crate::RecordedLink;
+use crate::prepared::Plan;
 use allow_policy::PutFault;
 use base_types::Text;
 use iam_names::PoolName;
+use service_config::{Config, Key, StartProvider};
 use service_view::{Command, Ready, View, place};
 use std::alloc::{AllocError, Global};
 use std::marker::Model;
 
-/// The state that a journal's entries leave.
+/// The state that a journal's entries leave. Contracts see what it stands for, and for how many entries more it has room.
 #[derive(Drop)]
 pub struct State {
     issuer: Text,
     key: Key,
     start: Option<StartProvider>,
     view: View,
-    entries: Vec<Entry>,
-    links: Vec<Link>,
+    count: u32,
+    links: Vec<RecordedLink>,
 }
 
 impl Model for State {
-    ghost use Rattle.std.specs.Prelude.{◌≤◌, ◌-◌, min, length, vec_len, vec_capacity};
-    ghost use Rattle.std.specs.List.{AllByRecursion};
-    ghost use Rattle.links.specs.Exact.{IsGoodLink};
-    ghost use Rattle.links.specs.State.{Content, Kept, IsReplayed};
+    ghost use Rattle.std.specs.Prelude.{◌≤◌, ◌-◌, min, map, vec_len, vec_capacity};
+    ghost use Rattle.links.specs.Licence.{Reached};
+    ghost use Rattle.links.specs.Recorded.{AreHeld, link_of_recorded};
+    ghost use Rattle.links.specs.State.{Kept};
 
     ghost Value = { Kept };
 
     ghost view = { λ s. record {
-      content = record { issuer = s.issuer; key = s.key; start = s.start; view = s.view.content; entries = s.entries.items; links = s.links.items };
-      spare = min s.view.spare (min (vec_capacity s.entries - vec_len s.entries) (vec_capacity s.links - vec_len s.links));
+      content = record { issuer = s.issuer; key = s.key; start = s.start; view = s.view.content; count = s.count; links = map link_of_recorded s.links.items };
+      spare = min s.view.spare (vec_capacity s.links - vec_len s.links);
     } };
 
-    ghost invariant = { λ s. (vec_len s.links ≤ vec_len s.entries) × AllByRecursion IsGoodLink s.links.items
-        × IsReplayed (record { issuer = s.issuer; key = s.key; start = s.start; view = s.view.content; entries = s.entries.items; links = s.links.items }) };
+    ghost invariant = { λ s. (vec_len s.links ≤ s.count) × AreHeld (map link_of_recorded s.links.items) s.links.items
+        × Reached (record { issuer = s.issuer; key = s.key; start = s.start; view = s.view.content; count = s.count; links = map link_of_recorded s.links.items }) };
+}
+
+/// The state of a configuration before the first entry: the provider's pool is there, enabled, and the scope word for all
+/// permissions.
+pub fn start(alloc: Global, config: &Config) -> Result<State, AllocError>
+    requires formed { IsFormedConfig config.now }
+    ensures { IfOk result (λ state. state.content ≡ start_of config.now) }
+{
+    let view = View::start(alloc, pool_of(&config.start))?;
+    match copies(alloc, config) {
+        Ok(own) => Ok(State {
+            issuer: own.issuer,
+            key: own.key,
+            start: own.start,
+            view,
+            count: 0,
+            links: Vec::new(alloc),
+        }),
+        Err(AllocError) => {
+            drop(view);
+            Err(AllocError)
+        }
+    }
+}
+
+// What a state keeps of its configuration.
+#[derive(Drop)]
+struct Own {
+    issuer: Text,
+    key: Key,
+    start: Option<StartProvider>,
+}
+
+fn copies(alloc: Global, config: &Config) -> Result<Own, AllocError>
+    ensures { IfOk result (λ own. own ≡ record { issuer = config.now.issuer; key = config.now.key; start = config.now.start }) }
+{
+    let Config {
+        issuer,
+        key,
+        start,
+        admin,
+        gate,
+    } = config.copy(alloc)?;
+    drop(admin);
+    drop(gate);
+    Ok(Own { issuer, key, start })
 }
 
 impl State {
-    ghost use Rattle.std.specs.Prelude.{◌≡◌, ◌≤◌, ◌-◌, ◌^◌, length, not, nat_lt, OnOk, IfOk, IfSome};
+    ghost use Rattle.std.specs.Prelude.{◌≡◌, ◌≤◌, ◌<◌, ◌-◌, ◌^◌, length, not, nat_lt, OnOk, IfOk, Some, option_map};
     ghost use Rattle.std.specs.Option.{option_copied};
-    ghost use Rattle.std.specs.List.{AllByRecursion};
-    ghost use Rattle.links.specs.Exact.{IsGoodLink};
     ghost use Rattle.allow_policy.specs.Puts.{RefusesBy};
     ghost use Rattle.service_view.specs.Puts.{put_fault, made_ready};
-    ghost use Rattle.links.specs.State.{IsReplayed, after, link_of, ready_of, state_from};
-
-    /// The state of a configuration before the first entry: the provider's pool is there, switched on, and the scope
-    /// word for all permissions.
-    pub fn new(
-        alloc: Global,
-        issuer: Text,
-        key: Key,
-        start: Option<StartProvider>,
-    ) -> Result<Self, AllocError>
-        ensures { IfOk result (λ state. state.content ≡ state_from issuer key start) }
-    {
-        let view = View::start(alloc, pool_of(&start))?;
-        Ok(State {
-            issuer,
-            key,
-            start,
-            view,
-            entries: Vec::new(alloc),
-            links: Vec::new(alloc),
-        })
-    }
+    ghost use Rattle.links.specs.Licence.{Licensed, Reached, prepared_of};
+    ghost use Rattle.links.specs.Entries.{IsEntry};
+    ghost use Rattle.links.specs.Prepared.{planned};
+    ghost use Rattle.links.specs.Recorded.{recorded as recorded_of};
+    ghost use Rattle.links.specs.State.{after, chain};
 
     /// The `iss` of the tokens.
     pub fn issuer(&self) -> &str
@@ -97,42 +127,47 @@ impl State {
         &self.view
     }
 
-    /// The recorded links, in the order of their numbers.
-    pub fn links(&self) -> &[Link]
-        ensures links { result.now ≡ self.now.content.links }
-        ensures good { AllByRecursion IsGoodLink self.now.content.links }
+    /// How many entries are recorded.
+    pub fn entry_count(&self) -> u32
+        ensures count { result ≡ self.now.content.count }
+        ensures reached { Reached self.now.content }
     {
-        self.links.as_slice()
+        self.count
     }
 
-    /// How many entries are recorded.
-    pub fn entry_count(&self) -> usize
-        ensures count { result ≡ length self.now.content.entries }
-        ensures links { length self.now.content.links ≤ result }
-        ensures replayed { IsReplayed self.now.content }
+    /// How many links are recorded. They have the numbers from 0 on.
+    pub fn link_count(&self) -> u32
+        ensures count { result ≡ length self.now.content.links }
+        ensures few { result ≤ self.now.content.count }
     {
-        self.entries.len()
+        self.links.len() as u32
     }
 
     /// Whether no entry more can be recorded: links are numbered below 2^32.
     pub fn is_full(&self) -> bool
-        ensures { result ≡ not (nat_lt (length self.now.content.entries) (2 ^ 32 - 1)) }
+        ensures { result ≡ not (nat_lt self.now.content.count (2 ^ 32 - 1)) }
     {
-        self.entries.len() >= 4_294_967_295
+        self.count >= 4_294_967_295
     }
 
-    /// Takes room for an entry more.
+    // What is held of the link of that number.
+    pub(crate) fn recorded(&self, number: u32) -> &RecordedLink
+        requires { number < length self.now.content.links }
+        ensures { option_map recorded_of (chain self.now.content number) ≡ Some result.now }
+    {
+        &self.links[number as usize]
+    }
+
+    // Takes room for an entry more.
     pub(crate) fn make_room(&mut self) -> Result<(), AllocError>
         ensures content { self.new.content ≡ self.old.content }
         ensures room { OnOk result (1 ≤ self.new.spare) }
     {
         self.view.make_room()?;
-        self.entries.reserve(1)?;
-        self.links.reserve(1)?;
-        Ok(())
+        self.links.reserve(1)
     }
 
-    /// Looks whether a command may be placed, and makes it ready.
+    // Looks whether a command may be placed, and makes it ready.
     pub(crate) fn ready(&mut self, command: Command) -> Result<Ready, PutFault>
         ensures command { IfOk result (λ ready. ready ≡ made_ready command) }
         ensures refused { RefusesBy (put_fault self.old.content.view command) result }
@@ -141,19 +176,23 @@ impl State {
         service_view::ready(&mut self.view, command)
     }
 
-    /// Places the command, and puts the entry and its link behind the others.
-    pub(crate) fn push(&mut self, entry: Entry, ready: Option<Ready>, link: Option<Link>)
+    // Places what was planned, and counts the entry.
+    pub(crate) fn carry_out(&mut self, plan: Plan)
         requires room { 1 ≤ self.old.spare }
-        requires good { IfSome link IsGoodLink }
-        requires placed { ready ≡ ready_of entry }
-        requires recorded { link ≡ link_of self.old.content entry }
-        ensures { self.new.content ≡ after self.old.content entry }
+        requires count { self.old.content.count < 2 ^ 32 - 1 }
+        requires form { IsEntry (planned plan).entry }
+        requires licensed { Licensed self.old.content (planned plan).entry }
+        requires prepared { planned plan ≡ prepared_of self.old.content (planned plan).entry }
+        ensures { self.new.content ≡ after self.old.content (planned plan).entry }
     {
-        place_if(&mut self.view, ready);
-        self.entries.push(entry).unwrap();
-        if let Some(link) = link {
-            self.links.push(link).unwrap();
+        match plan {
+            Plan::Put(ready) => place(&mut self.view, ready),
+            Plan::Federated { exchange, issued } => {
+                drop(exchange);
+                self.links.push(issued.recorded).unwrap();
+            }
         }
+        self.count += 1;
     }
 }
 
@@ -163,14 +202,5 @@ fn pool_of(start: &Option<StartProvider>) -> Option<&PoolName>
     match start {
         Some(provider) => Some(&provider.pool),
         None => None,
-    }
-}
-
-fn place_if(view: &mut View, ready: Option<Ready>)
-    requires { 1 ≤ view.old.spare }
-    ensures { view.new.content ≡ placed view.old.content ready }
-{
-    if let Some(ready) = ready {
-        place(view, ready);
     }
 }

@@ -6,8 +6,8 @@ use Rattle.base64.specs.GeneralPurpose.{decode_of}
 use Rattle.serde_json.specs.Data.{Data}
 use Rattle.serde_json.specs.Find.{get}
 use Rattle.json_text.specs.Document.{document, text_at}
-use Rattle.json_text.specs.Forms.{has_size, is_visible_text, passing}
-use Rattle.json_text.specs.Reading.{◌>>=◌, ReadsOr}
+use Rattle.base_types.specs.Forms.{has_size, is_visible_text, passing}
+use Rattle.base_types.specs.Reading.{◌>>=◌, ReadsOr}
 use Rattle.iam_names.specs.declared.audience.Audience.{Audience}
 use Rattle.iam_names.specs.PoolName.{pool_of}
 use Rattle.iam_names.specs.Forms.{is_id}
@@ -40,10 +40,10 @@ unfoldable pub start_of : Data → Option StartProvider
 start_of json = do
   project ← text_at (codes "project") json
   pool_text ← text_at (codes "pool") json
-  pool ← pool_of project pool_text
   id_text ← text_at (codes "provider") json
-  id ← passing is_id id_text
   issuer ← option_and_then issuer_of (text_at (codes "issuer") json)
+  pool ← pool_of project pool_text
+  id ← passing is_id id_text
   key ← option_and_then key_of (text_at (codes "key") json)
   Some (record { pool = pool; id = id; issuer = issuer; key = key })
 
@@ -58,9 +58,9 @@ start_at json = start_under (get (codes "start") json)
 unfoldable pub config_of : Data → Option Config
 config_of json = do
   issuer ← option_and_then issuer_of (text_at (codes "issuer") json)
-  key ← option_and_then key_of (text_at (codes "key") json)
   admin ← option_and_then secret_of (text_at (codes "admin") json)
   gate ← option_and_then secret_of (text_at (codes "gate") json)
+  key ← option_and_then key_of (text_at (codes "key") json)
   start ← start_at json
   Some (record { issuer = issuer; key = key; admin = admin; gate = gate; start = start })
 

@@ -1,7 +1,7 @@
 -- The form of a configuration.
 use Rattle.std.specs.Prelude.{◌≡◌, ℕ, List, true, ⊤, Option, None, Some}
 use Rattle.std.specs.Str.{IsUtf8}
-use Rattle.json_text.specs.Forms.{has_size}
+use Rattle.base_types.specs.Forms.{has_size}
 use Rattle.iam_names.specs.PoolName.{is_pool_name}
 use Rattle.iam_names.specs.Forms.{is_id}
 use Rattle.service_config.specs.declared.config.Config.{Config}

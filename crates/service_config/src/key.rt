@@ -20,7 +20,7 @@ impl Model for Key {
 
 impl Key {
     ghost use Rattle.std.specs.Prelude.{◌≡◌, ◌≤◌, IfOk, length};
-    ghost use Rattle.json_text.specs.Forms.{has_size, passing};
+    ghost use Rattle.base_types.specs.Forms.{has_size, passing};
 
     /// The key of these bytes, where they are so many.
     pub fn new(bytes: Bytes) -> Option<Self>

@@ -4,8 +4,6 @@
 mod config;
 mod key;
 mod read_config;
-#[cfg(test)]
-mod tests;
 
 pub use config::{Config, ConfigError, StartProvider};
 pub use key::Key;

@@ -1,20 +1,20 @@
-ghost use Rattle.std.specs.Prelude.{◌≡◌, IfOk, IsErrOf, codes, option_and_then};
+ghost use Rattle.std.specs.Prelude.{◌≡◌, true, IfOk, IfErr, IsErrOf, IsOkAnd, codes, option_and_then, option_map};
 ghost use Rattle.serde_json.specs.View.{view};
 ghost use Rattle.json_text.specs.Document.{text_at as text_member};
 ghost use Rattle.service_config.specs.Configuration.{IsConfiguration, Reads, config_of, start_at, start_of, key_of, issuer_of, secret_of, is_secret as secret_form};
-ghost use Rattle.service_config.specs.Formed.{IsFormedConfig, IsFormedProvider, IsFormedStart};
-ghost use Rattle.iam_names.specs.PoolName.{pool_of};
+ghost use Rattle.service_config.specs.Formed.{IsFormedConfig, IsFormedIssuer, IsFormedProvider, IsFormedStart};
+ghost use Rattle.iam_names.specs.PoolName.{pool_of, is_pool_name};
 ghost use Rattle.iam_names.specs.Forms.{is_id};
-ghost use Rattle.json_text.specs.Forms.{passing};
+ghost use Rattle.base_types.specs.Forms.{passing};
 
 use crate::{Config, ConfigError, Key, StartProvider};
-use base_types::{Bytes, Text};
+use base_types::{Bytes, Text, has_size, is_visible_text};
 use base64::DecodeAllocError;
 use base64::engine::general_purpose::URL_SAFE_NO_PAD;
 use iam_names::{NameError, PoolName, ProviderId};
-use json_text::{DocumentFault, has_size, is_visible_text, read_document, text_at};
+use json_text::{DocumentFault, read_document, text_at};
 use serde_json::Value;
-use std::alloc::Global;
+use std::alloc::{AllocError, Global};
 
 const CONFIG_LIMIT: usize = 65536;
 
@@ -41,17 +41,61 @@ fn config_from(alloc: Global, json: &Value) -> Result<Config, ConfigError>
     ensures formed { IfOk result IsFormedConfig }
 {
     let issuer = issuer_at(json)?;
-    let key = key_at(alloc, json)?;
     let admin = secret_at(json, "admin")?;
     let gate = secret_at(json, "gate")?;
-    let start = start_from(alloc, json)?;
-    Ok(Config {
-        issuer: Text::copy_of(alloc, issuer)?,
-        key,
-        admin: Text::copy_of(alloc, admin)?,
-        gate: Text::copy_of(alloc, gate)?,
-        start,
+    let key = key_at(alloc, json)?;
+    match start_from(alloc, json) {
+        Ok(start) => assembled(texts(alloc, issuer, admin, gate), key, start),
+        Err(fault) => {
+            drop(key);
+            Err(fault)
+        }
+    }
+}
+
+// The issuer and the secrets.
+#[derive(Debug, Drop)]
+struct Texts {
+    issuer: Text,
+    admin: Text,
+    gate: Text,
+}
+
+fn texts(alloc: Global, issuer: &str, admin: &str, gate: &str) -> Result<Texts, AllocError>
+    ensures { IfOk result (λ texts. texts ≡ record { issuer = issuer.now; admin = admin.now; gate = gate.now }) }
+{
+    let issuer = Text::copy_of(alloc, issuer)?;
+    let admin = Text::copy_of(alloc, admin)?;
+    let gate = Text::copy_of(alloc, gate)?;
+    Ok(Texts {
+        issuer,
+        admin,
+        gate,
     })
+}
+
+fn assembled(
+    texts: Result<Texts, AllocError>,
+    key: Key,
+    start: Option<StartProvider>,
+) -> Result<Config, ConfigError>
+    ensures config { IfOk result (λ config. IsOkAnd texts (λ found. config ≡ record { issuer = found.issuer; key = key; admin = found.admin; gate = found.gate; start = start })) }
+    ensures memory { IfErr result (λ fault. fault ≡ ConfigError.Memory) }
+{
+    match texts {
+        Ok(texts) => Ok(Config {
+            issuer: texts.issuer,
+            key,
+            admin: texts.admin,
+            gate: texts.gate,
+            start,
+        }),
+        Err(AllocError) => {
+            drop(key);
+            drop(start);
+            Err(ConfigError::Memory)
+        }
+    }
 }
 
 fn start_from(alloc: Global, json: &Value) -> Result<Option<StartProvider>, ConfigError>
@@ -71,20 +115,45 @@ fn provider_from(alloc: Global, json: &Value) -> Result<StartProvider, ConfigErr
 {
     let project = member(json, "project")?;
     let pool = member(json, "pool")?;
-    let pool = pool_from(alloc, project, pool)?;
-    let id = provider_id(alloc, member(json, "provider")?)?;
+    let id = member(json, "provider")?;
     let issuer = issuer_at(json)?;
+    let pool = pool_from(alloc, project, pool)?;
+    match provider_in(alloc, id, issuer, json) {
+        Ok(own) => Ok(StartProvider {
+            pool,
+            id: own.id,
+            issuer: own.issuer,
+            key: own.key,
+        }),
+        Err(fault) => {
+            drop(pool);
+            Err(fault)
+        }
+    }
+}
+
+// A provider's own parts, beside its pool.
+#[derive(Debug, Drop)]
+struct Own {
+    id: ProviderId,
+    issuer: Text,
+    key: Key,
+}
+
+fn provider_in(alloc: Global, id: &str, issuer: &str, json: &Value) -> Result<Own, ConfigError>
+    ensures read { Reads (λ own. own) result (option_and_then (λ name. option_map (λ key. record { id = name; issuer = issuer.now; key = key })
+        (option_and_then key_of (text_member (codes "key") (view json.now)))) (passing is_id id.now)) }
+    ensures id { IfOk result (λ own. is_id own.id ≡ true) }
+{
+    let id = provider_id(alloc, id)?;
     let key = key_at(alloc, json)?;
-    Ok(StartProvider {
-        pool,
-        id,
-        issuer: Text::copy_of(alloc, issuer)?,
-        key,
-    })
+    let issuer = Text::copy_of(alloc, issuer)?;
+    Ok(Own { id, issuer, key })
 }
 
 fn pool_from(alloc: Global, project: &str, pool: &str) -> Result<PoolName, ConfigError>
-    ensures { Reads (λ pool. pool) result (pool_of project.now pool.now) }
+    ensures read { Reads (λ pool. pool) result (pool_of project.now pool.now) }
+    ensures form { IfOk result (λ pool. is_pool_name pool ≡ true) }
 {
     match PoolName::of_parts(alloc, project, pool) {
         Ok(pool) => Ok(pool),
@@ -94,7 +163,8 @@ fn pool_from(alloc: Global, project: &str, pool: &str) -> Result<PoolName, Confi
 }
 
 fn provider_id(alloc: Global, text: &str) -> Result<ProviderId, ConfigError>
-    ensures { Reads (λ id. id) result (passing is_id text.now) }
+    ensures read { Reads (λ id. id) result (passing is_id text.now) }
+    ensures form { IfOk result (λ id. is_id id ≡ true) }
 {
     match ProviderId::read(alloc, text) {
         Ok(id) => Ok(id),
@@ -113,7 +183,8 @@ fn member<'a>(json: &'a Value, name: &str) -> Result<&'a str, ConfigError>
 }
 
 fn issuer_at(json: &Value) -> Result<&str, ConfigError>
-    ensures { Reads (λ text. text.now) result (option_and_then issuer_of (text_member (codes "issuer") (view json.now))) }
+    ensures read { Reads (λ text. text.now) result (option_and_then issuer_of (text_member (codes "issuer") (view json.now))) }
+    ensures form { IfOk result (λ text. IsFormedIssuer text.now) }
 {
     let text = member(json, "issuer")?;
     if has_size(text, 1, 256) {
@@ -124,7 +195,8 @@ fn issuer_at(json: &Value) -> Result<&str, ConfigError>
 }
 
 fn secret_at<'a>(json: &'a Value, name: &str) -> Result<&'a str, ConfigError>
-    ensures { Reads (λ text. text.now) result (option_and_then secret_of (text_member name.now (view json.now))) }
+    ensures read { Reads (λ text. text.now) result (option_and_then secret_of (text_member name.now (view json.now))) }
+    ensures form { IfOk result (λ text. secret_form text.now ≡ true) }
 {
     let text = member(json, name)?;
     if is_secret(text) {

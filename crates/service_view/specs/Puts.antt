@@ -1,6 +1,6 @@
 -- When a command is refused.
 use Rattle.std.specs.Prelude.{List, length, Bool, ◌&&◌, nat_le, is_none, Option}
-use Rattle.json_text.specs.Rules.{fails_if}
+use Rattle.base_types.specs.Rules.{fails_if}
 use Rattle.iam_names.specs.declared.pool_name.PoolName.{PoolName}
 use Rattle.allow_policy.specs.Puts.{is_full, role_fault, scope_fault, policy_fault}
 use Rattle.allow_policy.specs.declared.put_fault.PutFault.{PutFault}

@@ -7,8 +7,6 @@ mod limits;
 mod pools;
 mod puts;
 mod ready_command;
-#[cfg(test)]
-mod tests;
 mod view;
 
 pub use command::Command;

@@ -2,19 +2,20 @@
 use Rattle.std.specs.Prelude.{List, Option, Some, option_and_then, codes}
 use Rattle.serde_json.specs.Data.{Data}
 use Rattle.serde_json.specs.Find.{get, as_str}
-use Rattle.json_text.specs.Reading.{◌>>=◌}
+use Rattle.base_types.specs.Reading.{◌>>=◌}
 use Rattle.iam_names.specs.Forms.{is_role}
 use Rattle.iam_names.specs.Member.{member_of}
 use Rattle.iam_names.specs.declared.member.Member.{Member}
 use Rattle.allow_policy.specs.declared.binding.Binding.{Binding}
-use Rattle.sts_admin.specs.Members.{name_at, short_array, each}
+use Rattle.json_text.specs.Arrays.{short_list}
+use Rattle.json_text.specs.Members.{name_at}
 
 unfoldable pub binding_member : Data → Option Member
 binding_member d = option_and_then member_of (as_str d)
 
 -- an array of at most 64 members
 abbrev pub members_of : Data → Option (List Member)
-members_of d = option_and_then (each binding_member) (short_array 64 d)
+members_of d = short_list binding_member 64 d
 
 abbrev pub members_at : Data → Option (List Member)
 members_at d = option_and_then members_of (get (codes "members") d)
@@ -28,7 +29,7 @@ binding_of d = do
 
 -- an array of at most 64 bindings
 abbrev pub bindings_of : Data → Option (List Binding)
-bindings_of d = option_and_then (each binding_of) (short_array 64 d)
+bindings_of d = short_list binding_of 64 d
 
 abbrev pub bindings_at : Data → Option (List Binding)
 bindings_at d = option_and_then bindings_of (get (codes "bindings") d)

@@ -2,54 +2,46 @@
 use Rattle.std.specs.Prelude.{◌≡◌, ◌⊎◌, ℕ, List, Option, None, Some, Result, Ok, Err, if◌then◌else◌, codes}
 use Rattle.std.specs.Str.{bytes_eq}
 use Rattle.serde_json.specs.Data.{Data}
+use Rattle.base_types.specs.Steps.{◌>>=◌, needed}
 use Rattle.json_text.specs.Document.{text_at}
+use Rattle.json_text.specs.Members.{name_at}
 use Rattle.iam_names.specs.Forms.{is_project, is_id, is_account, is_role, is_scope_word, is_resource}
 use Rattle.sts_admin.specs.Bindings.{bindings_at}
-use Rattle.sts_admin.specs.Members.{name_at, disabled_at, permissions_at, scope_set_at}
+use Rattle.sts_admin.specs.Members.{disabled_at, permissions_at, scope_set_at}
 use Rattle.service_view.specs.declared.command.Command.{Command}
 use Rattle.sts_admin.specs.declared.command.CommandFault.{CommandFault}
 use Rattle.sts_admin.specs.declared.command.CommandMember.{CommandMember}
 use Rattle.sts_admin.specs.declared.command.CommandFault.TheVariants.{Kind, Field, Memory}
 
-infixl 10 ◌>>=◌
-abbrev pub ◌>>=◌ : {X Y : Type 0} → Result X CommandFault → (X → Result Y CommandFault) → Result Y CommandFault
-(Ok x) >>= next = next x
-(Err fault) >>= next = Err fault
-
--- the value, or the fault of the member that has to say one
-abbrev pub needed : {X : Type 0} → CommandMember → Option X → Result X CommandFault
-needed member None = Err (Field member)
-needed member (Some x) = Ok x
-
 unfoldable pub pool_command : Data → Result Command CommandFault
 pool_command d = do
-  project ← needed CommandMember.Project (name_at is_project (codes "project") d)
-  pool ← needed CommandMember.Pool (name_at is_id (codes "pool") d)
-  disabled ← needed CommandMember.Disabled (disabled_at d)
+  project ← needed (Field CommandMember.Project) (name_at is_project (codes "project") d)
+  pool ← needed (Field CommandMember.Pool) (name_at is_id (codes "pool") d)
+  disabled ← needed (Field CommandMember.Disabled) (disabled_at d)
   Ok (Command.Pool (record { project = project; pool = pool }) disabled)
 
 unfoldable pub account_command : Data → Result Command CommandFault
 account_command d = do
-  account ← needed CommandMember.Email (name_at is_account (codes "email") d)
-  disabled ← needed CommandMember.Disabled (disabled_at d)
+  account ← needed (Field CommandMember.Email) (name_at is_account (codes "email") d)
+  disabled ← needed (Field CommandMember.Disabled) (disabled_at d)
   Ok (Command.Account account disabled)
 
 unfoldable pub role_command : Data → Result Command CommandFault
 role_command d = do
-  role ← needed CommandMember.Role (name_at is_role (codes "role") d)
-  permissions ← needed CommandMember.Permissions (permissions_at d)
+  role ← needed (Field CommandMember.Role) (name_at is_role (codes "role") d)
+  permissions ← needed (Field CommandMember.Permissions) (permissions_at d)
   Ok (Command.Role role permissions)
 
 unfoldable pub scope_command : Data → Result Command CommandFault
 scope_command d = do
-  word ← needed CommandMember.Scope (name_at is_scope_word (codes "scope") d)
-  permissions ← needed CommandMember.Permissions (scope_set_at d)
+  word ← needed (Field CommandMember.Scope) (name_at is_scope_word (codes "scope") d)
+  permissions ← needed (Field CommandMember.Permissions) (scope_set_at d)
   Ok (Command.Scope word permissions)
 
 unfoldable pub policy_command : Data → Result Command CommandFault
 policy_command d = do
-  resource ← needed CommandMember.Resource (name_at is_resource (codes "resource") d)
-  bindings ← needed CommandMember.Bindings (bindings_at d)
+  resource ← needed (Field CommandMember.Resource) (name_at is_resource (codes "resource") d)
+  bindings ← needed (Field CommandMember.Bindings) (bindings_at d)
   Ok (Command.Policy resource bindings)
 
 abbrev pub command_of_kind : List ℕ → Data → Result Command CommandFault

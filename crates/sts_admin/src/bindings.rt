@@ -1,12 +1,12 @@
 ghost use Rattle.std.specs.Prelude.{◌≡◌, IfOk};
-ghost use Rattle.serde_json.specs.View.{view, items_view};
+ghost use Rattle.serde_json.specs.View.{view};
 ghost use Rattle.sts_admin.specs.Bindings as form;
-ghost use Rattle.sts_admin.specs.Members.{each};
 
-use crate::members::{name_at, short_array};
+use crate::members::name_at;
 use allow_policy::Binding;
 use base_types::Items;
 use iam_names::{Member, NameError, RoleForm};
+use json_text::{ReadFault, ReadsJson, short_list, where_formed};
 use serde_json::Value;
 use std::alloc::{AllocError, Global};
 
@@ -14,40 +14,33 @@ const BINDINGS: usize = 64;
 
 const MEMBERS: usize = 64;
 
-#[tactic(auto, unfolding(crate::specs::Bindings::binding_member))]
-fn member_of(alloc: Global, json: &Value) -> Result<Option<Member>, AllocError>
-    ensures { IfOk result (λ found. found ≡ form.binding_member (view json.now)) }
-{
-    let Some(text) = json.as_str() else {
-        return Ok(None);
-    };
-    match Member::read(alloc, text) {
-        Ok(member) => Ok(Some(member)),
-        Err(NameError::Form) => Ok(None),
-        Err(NameError::Memory) => Err(AllocError),
-    }
-}
+/// The form of a member.
+struct MemberItem;
 
-fn members_of_items(alloc: Global, items: &[Value]) -> Result<Option<Items<Member>>, AllocError>
-    ensures { IfOk result (λ found. found ≡ each form.binding_member (items_view items.now)) }
-{
-    let mut members = Items::new(alloc);
-    for item in items {
-        let Some(member) = member_of(alloc, item)? else {
-            return Ok(None);
+impl ReadsJson for MemberItem {
+    ghost use Rattle.sts_admin.specs.Bindings.{binding_member};
+
+    type Item = Member;
+
+    ghost meaning = { binding_member };
+
+    #[tactic(auto, unfolding(crate::specs::Bindings::binding_member))]
+    fn read_json(alloc: Global, json: &Value) -> Result<Member, ReadFault> {
+        let Some(text) = json.as_str() else {
+            return Err(ReadFault::Form);
         };
-        members.push(member)?;
+        match Member::read(alloc, text) {
+            Ok(member) => Ok(member),
+            Err(NameError::Form) => Err(ReadFault::Form),
+            Err(NameError::Memory) => Err(ReadFault::Memory),
+        }
     }
-    Ok(Some(members))
 }
 
 fn members_of(alloc: Global, json: &Value) -> Result<Option<Items<Member>>, AllocError>
     ensures { IfOk result (λ found. found ≡ form.members_of (view json.now)) }
 {
-    match short_array(json, MEMBERS) {
-        None => Ok(None),
-        Some(items) => members_of_items(alloc, items),
-    }
+    where_formed(short_list::<MemberItem>(alloc, json, MEMBERS))
 }
 
 fn members_at(alloc: Global, json: &Value) -> Result<Option<Items<Member>>, AllocError>
@@ -59,40 +52,34 @@ fn members_at(alloc: Global, json: &Value) -> Result<Option<Items<Member>>, Allo
     }
 }
 
-#[tactic(auto, unfolding(crate::specs::Bindings::binding_of))]
-fn binding_of(alloc: Global, json: &Value) -> Result<Option<Binding>, AllocError>
-    ensures { IfOk result (λ found. found ≡ form.binding_of (view json.now)) }
-{
-    let Some(role) = name_at::<RoleForm>(alloc, json, "role")? else {
-        return Ok(None);
-    };
-    let Some(members) = members_at(alloc, json)? else {
-        return Ok(None);
-    };
-    Ok(Some(Binding { role, members }))
-}
+/// The form of a binding.
+struct BindingItem;
 
-fn bindings_of_items(alloc: Global, items: &[Value]) -> Result<Option<Items<Binding>>, AllocError>
-    ensures { IfOk result (λ found. found ≡ each form.binding_of (items_view items.now)) }
-{
-    let mut bindings = Items::new(alloc);
-    for item in items {
-        let Some(binding) = binding_of(alloc, item)? else {
-            return Ok(None);
+impl ReadsJson for BindingItem {
+    ghost use Rattle.sts_admin.specs.Bindings.{binding_of};
+
+    type Item = Binding;
+
+    ghost meaning = { binding_of };
+
+    #[tactic(auto, unfolding(crate::specs::Bindings::binding_of))]
+    fn read_json(alloc: Global, json: &Value) -> Result<Binding, ReadFault> {
+        let Some(role) = name_at::<RoleForm>(alloc, json, "role")? else {
+            return Err(ReadFault::Form);
         };
-        bindings.push(binding)?;
+        let Some(members) = members_at(alloc, json)? else {
+            drop(role);
+            return Err(ReadFault::Form);
+        };
+        Ok(Binding { role, members })
     }
-    Ok(Some(bindings))
 }
 
 /// An array of at most 64 bindings, each of a role and at most 64 members.
 fn bindings_of(alloc: Global, json: &Value) -> Result<Option<Items<Binding>>, AllocError>
     ensures { IfOk result (λ found. found ≡ form.bindings_of (view json.now)) }
 {
-    match short_array(json, BINDINGS) {
-        None => Ok(None),
-        Some(items) => bindings_of_items(alloc, items),
-    }
+    where_formed(short_list::<BindingItem>(alloc, json, BINDINGS))
 }
 
 /// The bindings under `bindings`.

@@ -5,8 +5,6 @@ mod bindings;
 mod command;
 mod members;
 mod reading;
-#[cfg(test)]
-mod tests;
 
 pub use command::{CommandFault, CommandMember};
 pub use members::name_at;

@@ -1,13 +1,13 @@
-ghost use Rattle.std.specs.Prelude.{◌≡◌, option_map, option_and_then, IfOk};
-ghost use Rattle.serde_json.specs.Find.{as_str};
-ghost use Rattle.serde_json.specs.View.{view, items_view};
-ghost use Rattle.json_text.specs.Forms.{passing};
+ghost use Rattle.std.specs.Prelude.{◌≡◌, IfOk};
+ghost use Rattle.serde_json.specs.View.{view};
+ghost use Rattle.base_types.specs.Forms.{passing};
+ghost use Rattle.json_text.specs.Members.{name_at as name_member};
 ghost use Rattle.sts_admin.specs.Members as members;
 
 use allow_policy::ScopeSet;
 use base_types::Items;
 use iam_names::{Form, Name, NameError, Permission};
-use json_text::text_at;
+use json_text::{ReadFault, ReadsJson, short_list, switch, text_at, where_formed};
 use serde_json::Value;
 use std::alloc::{AllocError, Global};
 
@@ -29,7 +29,7 @@ pub fn name_at<F: Form>(
     json: &Value,
     name: &str,
 ) -> Result<Option<Name<F>>, AllocError>
-    ensures { IfOk result (λ found. found ≡ members.name_at F.is_of_form name.now (view json.now)) }
+    ensures { IfOk result (λ found. found ≡ name_member F.is_of_form name.now (view json.now)) }
 {
     match text_at(json, name) {
         None => Ok(None),
@@ -41,58 +41,36 @@ pub fn name_at<F: Form>(
 pub(crate) fn disabled_at(json: &Value) -> Option<bool>
     ensures { result ≡ members.disabled_at (view json.now) }
 {
-    match json.get("disabled") {
-        None => Some(false),
-        Some(disabled) => disabled.as_bool(),
-    }
+    switch(json.get("disabled"))
 }
 
-/// The items of an array of at most so many.
-#[tactic(auto, using(crate::proofs::ShortArrays::count_view))]
-pub(crate) fn short_array(json: &Value, most: usize) -> Option<&[Value]>
-    ensures { option_map (λ items. items_view items.now) result ≡ members.short_array most (view json.now) }
-{
-    let items = json.as_array()?;
-    if items.len() <= most {
-        Some(items.as_slice())
-    } else {
-        None
-    }
-}
+/// The form of a permission.
+struct PermissionItem;
 
-fn permission_of(alloc: Global, json: &Value) -> Result<Option<Permission>, AllocError>
-    ensures { IfOk result (λ found. found ≡ members.permission_of (view json.now)) }
-{
-    match json.as_str() {
-        None => Ok(None),
-        Some(text) => name_of(alloc, text),
-    }
-}
+impl ReadsJson for PermissionItem {
+    ghost use Rattle.sts_admin.specs.Members.{permission_of};
 
-fn permissions_of_items(
-    alloc: Global,
-    items: &[Value],
-) -> Result<Option<Items<Permission>>, AllocError>
-    ensures { IfOk result (λ found. found ≡ members.each members.permission_of (items_view items.now)) }
-{
-    let mut permissions = Items::new(alloc);
-    for item in items {
-        let Some(permission) = permission_of(alloc, item)? else {
-            return Ok(None);
+    type Item = Permission;
+
+    ghost meaning = { permission_of };
+
+    fn read_json(alloc: Global, json: &Value) -> Result<Permission, ReadFault> {
+        let Some(text) = json.as_str() else {
+            return Err(ReadFault::Form);
         };
-        permissions.push(permission)?;
+        match Permission::read(alloc, text) {
+            Ok(permission) => Ok(permission),
+            Err(NameError::Form) => Err(ReadFault::Form),
+            Err(NameError::Memory) => Err(ReadFault::Memory),
+        }
     }
-    Ok(Some(permissions))
 }
 
 /// An array of at most 256 permissions.
 fn permissions_of(alloc: Global, json: &Value) -> Result<Option<Items<Permission>>, AllocError>
     ensures { IfOk result (λ found. found ≡ members.permissions_of (view json.now)) }
 {
-    match short_array(json, PERMISSIONS) {
-        None => Ok(None),
-        Some(items) => permissions_of_items(alloc, items),
-    }
+    where_formed(short_list::<PermissionItem>(alloc, json, PERMISSIONS))
 }
 
 /// The permissions under `permissions`.

@@ -3,11 +3,11 @@ use Rattle.std.specs.Prelude.{ℕ, ◌&&◌, List, [], ◌∷◌, codes, Bool, f
 use Rattle.std.specs.List.{list_all}
 use Rattle.std.specs.Str.{bytes_eq}
 use Rattle.iam_names.specs.Audience.{audience_text}
-use Rattle.links.specs.declared.config.StartProvider.{StartProvider}
+use Rattle.service_config.specs.declared.config.StartProvider.{StartProvider}
 use Rattle.links.specs.declared.entry.Entry.{Entry}
 use Rattle.links.specs.declared.entry.Entry.TheVariants.{Federated}
 use Rattle.service_view.specs.View.{cloud_platform}
-use Rattle.links.specs.Sources.{provider_name}
+use Rattle.service_config.specs.Configuration.{provider_name}
 use Rattle.sts_core.specs.Forms.{is_all_text, is_absent, once}
 use Rattle.sts_core.specs.declared.form.Parameter.{Parameter}
 

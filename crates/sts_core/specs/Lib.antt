@@ -1,4 +1,5 @@
 pub mod Asked
+pub mod Check
 pub mod Forms
 pub mod Machine
 pub mod Refusals

@@ -1,32 +1,31 @@
 -- The machine: what the service replies to a request, and which entry it adds to its journal.
 use Rattle.std.specs.Prelude.{ℕ, List, [], ◌∷◌, ◌++◌, length, Bool, false, not, Option, None, Some, option_and_then, is_some, codes, Result, Ok, Err, if◌then◌else◌}
 use Rattle.std.specs.Str.{bytes_eq}
-use Rattle.json_text.specs.Rules.{fails_if, first_failing}
+use Rattle.base_types.specs.Rules.{fails_if, first_failing}
 use Rattle.wif_base.specs.declared.route.Route.{Route}
 use Rattle.wif_base.specs.declared.route.Route.TheVariants.{Token, Generate, Introspect, Check, Admin}
 use Rattle.wif_base.specs.declared.request.Request.{Request}
 use Rattle.wif_base.specs.declared.request.Reply.{Reply}
-use Rattle.links.specs.declared.config.Config.{Config}
+use Rattle.service_config.specs.declared.config.Config.{Config}
 use Rattle.links.specs.declared.entry.Entry.{Entry}
 use Rattle.links.specs.declared.entry.Entry.TheVariants.{Put}
 use Rattle.serde_json.specs.Data.{Data}
 use Rattle.serde_json.specs.Find.{as_object}
 use Rattle.json_text.specs.Document.{document, text_at}
 use Rattle.iam_names.specs.Forms.{is_permission, is_resource}
-use Rattle.sts_admin.specs.Members.{name_at}
-use Rattle.grant_gate.specs.Decision.{check_decision}
-use Rattle.json_text.specs.Forms.{passing}
+use Rattle.json_text.specs.Members.{name_at}
+use Rattle.sts_core.specs.Check.{check_decision, issued_chain}
+use Rattle.base_types.specs.Forms.{passing}
 use Rattle.service_view.specs.declared.command.Command.{Command}
 use Rattle.sts_admin.specs.declared.command.CommandFault.{CommandFault}
 use Rattle.sts_admin.specs.Commands.{command_of}
 use Rattle.links.specs.declared.fault.RuleCode.{RuleCode}
-use Rattle.links.specs.Active.{active_text}
+use Rattle.access_token.specs.Active.{active_text}
 use Rattle.links.specs.Chain.{Chain}
 use Rattle.links.specs.Facts.{facts_of}
-use Rattle.links.specs.Issued.{issued_link}
 use Rattle.links.specs.Licence.{first_unlicensed, prepared_of}
 use Rattle.links.specs.Authority.{live}
-use Rattle.links.specs.State.{Content, chain, start_of, state_after}
+use Rattle.links.specs.State.{Content, after, content_of}
 use Rattle.sts_core.specs.Asked.{asked_entry}
 use Rattle.sts_core.specs.Forms.{form_of, is_all_text, once}
 use Rattle.sts_core.specs.Refusals.{refusal_of, command_refusal}
@@ -40,10 +39,6 @@ pub record Answer : Type 0 where
 abbrev pub no_entry : Reply → Answer
 no_entry reply = record { reply = reply; entry = None }
 
--- the state of a configuration behind these entries
-abbrev pub content_of : Config → List Entry → Content
-content_of config journal = state_after (start_of config) journal
-
 -- ---- introspection (RFC 7662)
 
 -- the bearer is the secret
@@ -53,22 +48,19 @@ is_bearer secret (Some bearer) = bytes_eq bearer secret
 
 -- a link that is live is told, and of any other token no more than that it isn't active
 abbrev pub told : Content → ℕ → Option Chain → Reply
-told c at None = inactive
-told c at (Some chain) = if live c chain at then (record { status = 200; body = active_text c.issuer (facts_of chain) }) else inactive
+told c now None = inactive
+told c now (Some chain) = if live c.view chain now then (record { status = 200; body = active_text c.issuer (facts_of chain) }) else inactive
 
--- the chain of the link that a token was issued for
-abbrev pub token_chain : Content → List ℕ → Option Chain
-token_chain c token = option_and_then (chain c) (issued_link c token)
-
+-- of a text that isn't there once nothing is told
 abbrev pub told_token : Content → ℕ → Option (List ℕ) → Reply
-told_token c at None = n2
-told_token c at (Some token) = told c at (token_chain c token)
+told_token c now None = n2
+told_token c now (Some token) = told c now (issued_chain c token)
 
 unfoldable pub introspection : List ℕ → Content → Request → ℕ → Reply
-introspection gate c request at = first_failing (
+introspection gate c request now = first_failing (
     fails_if (not (is_bearer gate request.bearer)) u1 ∷
     fails_if (not (is_all_text (form_of request.body))) not_built ∷ []
-    ) (told_token c at (once (codes "token") (form_of request.body)))
+    ) (told_token c now (once (codes "token") (form_of request.body)))
 
 -- ---- the exchange (RFC 8693)
 
@@ -83,14 +75,14 @@ exchanged c (Some entry) = ruled c entry (first_unlicensed c entry)
 
 -- what is asked for is issued, where no rule forbids it
 abbrev pub exchange : Content → Request → ℕ → Answer
-exchange c request at = exchanged c (asked_entry c.start (form_of request.body) at)
+exchange c request now = exchanged c (asked_entry c.start (form_of request.body) now)
 
 -- ---- commands
 
 -- a rule forbids the command, or it is recorded
 abbrev pub commanded_by : Content → Command → Option RuleCode → Answer
 commanded_by c command (Some rule) = no_entry (refusal_of rule)
-commanded_by c command None = record { reply = entered (length c.entries); entry = Some (Put command) }
+commanded_by c command None = record { reply = entered (c.count); entry = Some (Put command) }
 
 abbrev pub commanded : Content → Result Command CommandFault → Answer
 commanded c (Err fault) = no_entry (command_refusal fault)
@@ -114,33 +106,38 @@ administration secret c request = if is_bearer secret request.bearer then comman
 -- ---- checks
 
 abbrev pub check_asked : Content → ℕ → Option (List ℕ) → Option (List ℕ) → Option (List ℕ) → Reply
-check_asked c at None permission resource = bad_argument (codes "C2")
-check_asked c at (Some token) None resource = bad_argument (codes "C3")
-check_asked c at (Some token) (Some permission) None = bad_argument (codes "C4")
-check_asked c at (Some token) (Some permission) (Some resource) = decision_reply (check_decision c token permission resource at)
+check_asked c now None permission resource = bad_argument (codes "C2")
+check_asked c now (Some token) None resource = bad_argument (codes "C3")
+check_asked c now (Some token) (Some permission) None = bad_argument (codes "C4")
+check_asked c now (Some token) (Some permission) (Some resource) = decision_reply (check_decision c token permission resource now)
 
 abbrev pub check_in : Content → ℕ → Option Data → Reply
-check_in c at None = bad_argument (codes "C1")
-check_in c at (Some d) = check_asked c at (text_at (codes "token") d) (name_at is_permission (codes "permission") d) (name_at is_resource (codes "resource") d)
+check_in c now None = bad_argument (codes "C1")
+check_in c now (Some d) = check_asked c now (text_at (codes "token") d) (name_at is_permission (codes "permission") d) (name_at is_resource (codes "resource") d)
 
 -- the permission on the resource is admitted or denied, where the bearer is the secret
 unfoldable pub checking : List ℕ → Content → Request → ℕ → Reply
-checking gate c request at = if is_bearer gate request.bearer then check_in c at (object_of request.body) else u1
+checking gate c request now = if is_bearer gate request.bearer then check_in c now (object_of request.body) else u1
 
 -- ---- any request
 
 -- the machine's answer to a request of a route
 abbrev pub step_of : Route → Config → Content → Request → ℕ → Answer
-step_of Token config c request at = exchange c request at
-step_of (Generate account) config c request at = no_entry not_built
-step_of Introspect config c request at = no_entry (introspection config.gate c request at)
-step_of Check config c request at = no_entry (checking config.gate c request at)
-step_of Admin config c request at = administration config.admin c request
+step_of Token config c request now = exchange c request now
+step_of (Generate account) config c request now = no_entry not_built
+step_of Introspect config c request now = no_entry (introspection config.gate c request now)
+step_of Check config c request now = no_entry (checking config.gate c request now)
+step_of Admin config c request now = administration config.admin c request
 
 abbrev pub step : Config → List Entry → Request → ℕ → Answer
-step config journal request at = step_of request.route config (content_of config journal) request at
+step config journal request now = step_of request.route config (content_of config journal) request now
 
 -- the journal with the entry, if there is one
 abbrev pub with_entry : List Entry → Option Entry → List Entry
 with_entry journal None = journal
 with_entry journal (Some entry) = journal ++ entry ∷ []
+
+-- the state behind an answer
+abbrev pub behind : Content → Option Entry → Content
+behind c None = c
+behind c (Some entry) = after c entry

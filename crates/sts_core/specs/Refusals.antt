@@ -12,7 +12,7 @@ use Rattle.links.specs.declared.fault.RuleCode.{RuleCode}
 use Rattle.links.specs.declared.fault.RuleCode.TheVariants.{E11, E14, E15, E16, E17, E18, E19, E25, A4, A6}
 use Rattle.sts_admin.specs.Names.{member_name}
 use Rattle.sts_admin.specs.declared.command.CommandFault.{CommandFault}
-use Rattle.sts_admin.specs.declared.command.CommandFault.TheVariants.{Field}
+use Rattle.sts_admin.specs.declared.command.CommandFault.TheVariants.{Kind, Field, Memory}
 use Rattle.sts_core.specs.Replies.{refusal, bad_argument}
 
 abbrev pub jws_text : JwsFault → List ℕ
@@ -63,7 +63,11 @@ word_of E14 = codes "invalid_target"
 word_of E15 = codes "invalid_target"
 word_of A4 = codes "invalid_argument"
 word_of A6 = codes "invalid_argument"
-word_of _ = codes "invalid_request"
+word_of (E16 fault) = codes "invalid_request"
+word_of (E17 fault) = codes "invalid_request"
+word_of (E18 fault) = codes "invalid_request"
+word_of (E19 fault) = codes "invalid_request"
+word_of E25 = codes "invalid_request"
 
 abbrev pub refusal_of : RuleCode → Reply
 refusal_of rule = refusal 400 (word_of rule) (rule_text rule)
@@ -73,7 +77,8 @@ refusal_of rule = refusal 400 (word_of rule) (rule_text rule)
 -- the code of the fault, and the member behind a space
 abbrev pub fault_text : CommandFault → List ℕ
 fault_text (Field member) = codes "A3 " ++ member_name member
-fault_text fault = codes "A2"
+fault_text Kind = codes "A2"
+fault_text Memory = codes "A2"
 
 abbrev pub command_refusal : CommandFault → Reply
 command_refusal fault = bad_argument (fault_text fault)

@@ -1,12 +1,11 @@
 -- The replies of the service.
-use Rattle.std.specs.Prelude.{ℕ, ◌-◌, List, [], ◌++◌, codes, unwrap_or}
+use Rattle.std.specs.Prelude.{ℕ, ◌-◌, List, [], ◌++◌, codes, Option, None, Some, unwrap_or}
 use Rattle.std.specs.Fmt.{decimal}
 use Rattle.serde_json.specs.Data.{Data, number, unsigned, string, object, member, no_members}
 use Rattle.serde_json.specs.Written.{compact_text}
-use Rattle.links.specs.declared.entry.Entry.{Entry}
-use Rattle.links.specs.declared.entry.Entry.TheVariants.{Put, Federated}
-use Rattle.links.specs.declared.prepared.Prepared.{Prepared}
-use Rattle.links.specs.Payload.{words_text}
+use Rattle.access_token.specs.Payload.{words_text, last_words}
+use Rattle.links.specs.declared.recorded.RecordedLink.{RecordedLink}
+use Rattle.links.specs.Prepared.{PreparedEntry}
 use Rattle.wif_base.specs.declared.request.Reply.{Reply}
 use Rattle.grant_gate.specs.declared.decision.Decision.{Decision}
 use Rattle.grant_gate.specs.declared.decision.Decision.TheVariants.{Admit, Deny}
@@ -59,20 +58,17 @@ issued_data token seconds scope = object (
     member (codes "scope") (string scope) (
     member (codes "token_type") (string (codes "Bearer")) no_members)))))
 
-abbrev pub scope_of : Entry → List (List ℕ)
-scope_of (Put command) = []
-scope_of (Federated x) = x.scope
+-- the token's text, how many seconds it lasts, and the words of its scope
+abbrev pub token_reply : List ℕ → ℕ → List (List ℕ) → Reply
+token_reply token seconds words = record { status = 200; body = compact_text (issued_data token seconds (words_text words)) }
 
-abbrev pub moment_of : Entry → ℕ
-moment_of (Put command) = 0
-moment_of (Federated x) = x.at
+abbrev pub issued_by : List ℕ → Option RecordedLink → Reply
+issued_by token None = token_reply token 0 []
+issued_by token (Some link) = token_reply token (link.facts.exp - link.facts.iat) (last_words link.facts.scopes)
 
--- An entry that is licensed has a token and an expiry.
-unfoldable pub issued : Prepared → Reply
-issued prepared = record {
-  status = 200;
-  body = compact_text (issued_data (unwrap_or prepared.token []) (unwrap_or prepared.exp 0 - moment_of prepared.entry) (words_text (scope_of prepared.entry)));
-}
+-- the reply to an exchange that is recorded: its entry has a link with a token
+unfoldable pub issued : PreparedEntry → Reply
+issued prepared = issued_by (unwrap_or prepared.token []) prepared.recorded
 
 -- ---- a command that is recorded: its entry's number, counted from 0
 
@@ -96,7 +92,11 @@ abbrev pub place_member : GateRule → ℕ → List ℕ
 place_member gate.G5 place = codes "\"place\":" ++ (decimal place ++ codes ",")
 place_member gate.G6 place = codes "\"place\":" ++ (decimal place ++ codes ",")
 place_member gate.G7 place = codes "\"place\":" ++ (decimal place ++ codes ",")
-place_member rule place = []
+place_member gate.G1 place = []
+place_member gate.G2 place = []
+place_member gate.G3 place = []
+place_member gate.G4 place = []
+place_member gate.G9 place = []
 
 abbrev pub denial_text : GateRule → ℕ → List ℕ
 denial_text rule place = codes "{\"allowed\":false," ++ (place_member rule place ++ (codes "\"reason\":\"" ++ (rule_code rule ++ codes "\"}")))

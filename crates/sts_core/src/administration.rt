@@ -1,7 +1,7 @@
-ghost use Rattle.std.specs.Prelude.{◌≡◌, ◌<◌, ◌-◌, ◌^◌, IfOk, OnOk, OnErr, Ok, Some, length};
+ghost use Rattle.std.specs.Prelude.{◌≡◌, ◌<◌, ◌-◌, ◌^◌, IfOk, OnOk, OnErr, Ok, Some};
 ghost use Rattle.serde_json.specs.View.{view};
 ghost use Rattle.sts_admin.specs.Commands.{command_of};
-ghost use Rattle.sts_core.specs.Machine.{administration, command_in, commanded, with_entry};
+ghost use Rattle.sts_core.specs.Machine.{administration, command_in, commanded, behind};
 
 use crate::Stop;
 use crate::body::read_object;
@@ -13,7 +13,7 @@ use base_types::Text;
 use links::{ApplyFault, Entry, State, commit, prepare};
 use serde_json::Value;
 use service_view::Command;
-use std::alloc::Global;
+use std::alloc::{AllocError, Global};
 use sts_admin::{CommandFault, read_command};
 use wif_base::{Reply, Request};
 
@@ -25,12 +25,9 @@ pub(crate) fn administer(
     state: &mut State,
     request: &Request,
 ) -> Result<Reply, Stop>
-    requires room { length state.old.content.entries < 2 ^ 32 - 1 }
+    requires room { state.old.content.count < 2 ^ 32 - 1 }
     ensures reply { IfOk result (λ reply. reply ≡ (administration secret.now state.old.content request.now).reply) }
-    ensures entry { OnOk result (state.new.content.entries ≡ with_entry state.old.content.entries (administration secret.now state.old.content request.now).entry) }
-    ensures issuer { state.new.content.issuer ≡ state.old.content.issuer }
-    ensures key { state.new.content.key ≡ state.old.content.key }
-    ensures start { state.new.content.start ≡ state.old.content.start }
+    ensures content { OnOk result (state.new.content ≡ behind state.old.content (administration secret.now state.old.content request.now).entry) }
     ensures refused { OnErr result (state.new.content ≡ state.old.content) }
 {
     if !is_bearer(secret, &request.bearer) {
@@ -44,12 +41,9 @@ pub(crate) fn administer(
 
 // Reads a command and records it.
 fn obey(alloc: Global, state: &mut State, json: &Value) -> Result<Reply, Stop>
-    requires room { length state.old.content.entries < 2 ^ 32 - 1 }
+    requires room { state.old.content.count < 2 ^ 32 - 1 }
     ensures reply { IfOk result (λ reply. reply ≡ (command_in state.old.content (Some (view json.now))).reply) }
-    ensures entry { OnOk result (state.new.content.entries ≡ with_entry state.old.content.entries (command_in state.old.content (Some (view json.now))).entry) }
-    ensures issuer { state.new.content.issuer ≡ state.old.content.issuer }
-    ensures key { state.new.content.key ≡ state.old.content.key }
-    ensures start { state.new.content.start ≡ state.old.content.start }
+    ensures content { OnOk result (state.new.content ≡ behind state.old.content (command_in state.old.content (Some (view json.now))).entry) }
     ensures refused { OnErr result (state.new.content ≡ state.old.content) }
 {
     if is_unbuilt(json) {
@@ -64,21 +58,23 @@ fn obey(alloc: Global, state: &mut State, json: &Value) -> Result<Reply, Stop>
 
 // Records a command, where no rule forbids it.
 fn enter(alloc: Global, state: &mut State, command: Command) -> Result<Reply, Stop>
-    requires room { length state.old.content.entries < 2 ^ 32 - 1 }
+    requires room { state.old.content.count < 2 ^ 32 - 1 }
     ensures reply { IfOk result (λ reply. reply ≡ (commanded state.old.content (Ok command)).reply) }
-    ensures entry { OnOk result (state.new.content.entries ≡ with_entry state.old.content.entries (commanded state.old.content (Ok command)).entry) }
-    ensures issuer { state.new.content.issuer ≡ state.old.content.issuer }
-    ensures key { state.new.content.key ≡ state.old.content.key }
-    ensures start { state.new.content.start ≡ state.old.content.start }
+    ensures content { OnOk result (state.new.content ≡ behind state.old.content (commanded state.old.content (Ok command)).entry) }
     ensures refused { OnErr result (state.new.content ≡ state.old.content) }
 {
     let number = state.entry_count();
     match prepare(alloc, state, Entry::Put(command)) {
-        Ok(prepared) => {
-            let reply = entered(alloc, number)?;
-            commit(state, prepared);
-            Ok(reply)
-        }
+        Ok(prepared) => match entered(alloc, number) {
+            Ok(reply) => {
+                commit(state, prepared);
+                Ok(reply)
+            }
+            Err(AllocError) => {
+                drop(prepared);
+                Err(Stop::Memory)
+            }
+        },
         Err(ApplyFault::Unlicensed { rule }) => Ok(refusal_of(alloc, &rule)?),
         Err(ApplyFault::Memory) => Err(Stop::Memory),
     }

@@ -1,6 +1,6 @@
-ghost use Rattle.std.specs.Prelude.{◌≡◌, ◌<◌, ◌^◌, IfOk, Some, length};
+ghost use Rattle.std.specs.Prelude.{◌≡◌, IfOk, Some};
 ghost use Rattle.serde_json.specs.View.{view};
-ghost use Rattle.grant_gate.specs.Decision.{check_decision};
+ghost use Rattle.sts_core.specs.Check.{check_decision};
 ghost use Rattle.sts_core.specs.Machine.{checking, check_in};
 ghost use Rattle.sts_core.specs.Replies.{decision_reply};
 
@@ -24,23 +24,21 @@ pub(crate) fn check(
     gate: &Text,
     state: &State,
     request: &Request,
-    at: u64,
+    now: u64,
 ) -> Result<Reply, AllocError>
-    requires { length state.now.content.entries < 2 ^ 32 }
     ensures { IfOk result (λ reply. reply ≡ checking gate.now state.now.content request.now at) }
 {
     if !is_bearer(gate, &request.bearer) {
         return no_bearer(alloc);
     }
     match read_object(alloc, request.body.as_slice())? {
-        Some(json) => check_object(alloc, state, &json, at),
+        Some(json) => check_object(alloc, state, &json, now),
         None => bad_argument(alloc, "C1"),
     }
 }
 
-fn check_object(alloc: Global, state: &State, json: &Value, at: u64) -> Result<Reply, AllocError>
-    requires { length state.now.content.entries < 2 ^ 32 }
-    ensures { IfOk result (λ reply. reply ≡ check_in state.now.content at (Some (view json.now))) }
+fn check_object(alloc: Global, state: &State, json: &Value, now: u64) -> Result<Reply, AllocError>
+    ensures { IfOk result (λ reply. reply ≡ check_in state.now.content now (Some (view json.now))) }
 {
     let Some(token) = text_at(json, "token") else {
         return bad_argument(alloc, "C2");
@@ -51,7 +49,7 @@ fn check_object(alloc: Global, state: &State, json: &Value, at: u64) -> Result<R
     let Some(resource) = name_at::<ResourceForm>(alloc, json, "resource")? else {
         return bad_argument(alloc, "C4");
     };
-    let decision = decide_token(alloc, state, token, &permission, &resource, at)?;
+    let decision = decide_token(alloc, state, token, &permission, &resource, now)?;
     decided(alloc, decision)
 }
 
@@ -62,13 +60,12 @@ fn decide_token(
     token: &str,
     permission: &Permission,
     resource: &Resource,
-    at: u64,
+    now: u64,
 ) -> Result<Decision, AllocError>
-    requires { length state.now.content.entries < 2 ^ 32 }
-    ensures { IfOk result (λ decision. decision ≡ check_decision state.now.content token.now permission.now resource.now at) }
+    ensures { IfOk result (λ decision. decision ≡ check_decision state.now.content token.now permission.now resource.now now) }
 {
     // Their contracts say what holds of every state.
-    let (_links, _count) = (state.links(), state.entry_count());
+    let (_reached, _few) = (state.entry_count(), state.link_count());
     let issuer = state.issuer();
     decide(
         alloc,
@@ -78,6 +75,6 @@ fn decide_token(
         token,
         permission,
         resource,
-        at,
+        now,
     )
 }

@@ -1,16 +1,17 @@
-ghost use Rattle.std.specs.Prelude.{◌≡◌, ◌≤◌, ◌<◌, ◌-◌, ◌^◌, IfOk, IfSome, OnOk, OnErr, Some, length};
+ghost use Rattle.std.specs.Prelude.{◌≡◌, ◌≤◌, ◌<◌, ◌-◌, ◌^◌, IfOk, IfSome, OnOk, OnErr, Some};
 ghost use Rattle.links.specs.Entries.{IsEntry};
 ghost use Rattle.sts_core.specs.Asked.{asked_entry, asks_for, is_plain_exchange, is_once as once_is, unwanted};
 ghost use Rattle.std.specs.List.{list_all};
 ghost use Rattle.sts_core.specs.Forms.{is_absent as absent};
-ghost use Rattle.sts_core.specs.Machine.{exchange as exchange_of, exchanged, with_entry};
+ghost use Rattle.sts_core.specs.Machine.{behind, exchange as exchange_of, exchanged};
 
 use crate::Stop;
 use crate::form::{Parameter, is_absent, is_all_text, once, read_form};
 use crate::refusal::refusal_of;
 use crate::reply::{issued, not_built};
 use base_types::Text;
-use links::{ApplyFault, Entry, Exchange, StartProvider, State, all_permissions, commit, prepare};
+use links::{ApplyFault, Entry, Exchange, State, all_permissions, commit, prepare};
+use service_config::StartProvider;
 use std::alloc::{AllocError, Global};
 use wif_base::{Reply, Request};
 
@@ -23,19 +24,16 @@ pub(crate) fn exchange(
     alloc: Global,
     state: &mut State,
     request: &Request,
-    at: u64,
+    now: u64,
 ) -> Result<Reply, Stop>
-    requires moment { at ≤ 200_000_000_000 }
-    requires room { length state.old.content.entries < 2 ^ 32 - 1 }
-    ensures reply { IfOk result (λ reply. reply ≡ (exchange_of state.old.content request.now at).reply) }
-    ensures entry { OnOk result (state.new.content.entries ≡ with_entry state.old.content.entries (exchange_of state.old.content request.now at).entry) }
-    ensures issuer { state.new.content.issuer ≡ state.old.content.issuer }
-    ensures key { state.new.content.key ≡ state.old.content.key }
-    ensures start { state.new.content.start ≡ state.old.content.start }
+    requires moment { now ≤ 200_000_000_000 }
+    requires room { state.old.content.count < 2 ^ 32 - 1 }
+    ensures reply { IfOk result (λ reply. reply ≡ (exchange_of state.old.content request.now now).reply) }
+    ensures content { OnOk result (state.new.content ≡ behind state.old.content (exchange_of state.old.content request.now now).entry) }
     ensures refused { OnErr result (state.new.content ≡ state.old.content) }
 {
     let form = read_form(alloc, request.body.as_slice())?;
-    match asked(alloc, state, form.as_slice(), at)? {
+    match asked(alloc, state, form.as_slice(), now)? {
         Some(entry) => issue(alloc, state, entry),
         None => Ok(not_built(alloc)?),
     }
@@ -44,20 +42,22 @@ pub(crate) fn exchange(
 // Issues what is asked for, where no rule forbids it.
 fn issue(alloc: Global, state: &mut State, entry: Entry) -> Result<Reply, Stop>
     requires form { IsEntry entry }
-    requires room { length state.old.content.entries < 2 ^ 32 - 1 }
+    requires room { state.old.content.count < 2 ^ 32 - 1 }
     ensures reply { IfOk result (λ reply. reply ≡ (exchanged state.old.content (Some entry)).reply) }
-    ensures entry { OnOk result (state.new.content.entries ≡ with_entry state.old.content.entries (exchanged state.old.content (Some entry)).entry) }
-    ensures issuer { state.new.content.issuer ≡ state.old.content.issuer }
-    ensures key { state.new.content.key ≡ state.old.content.key }
-    ensures start { state.new.content.start ≡ state.old.content.start }
+    ensures content { OnOk result (state.new.content ≡ behind state.old.content (exchanged state.old.content (Some entry)).entry) }
     ensures refused { OnErr result (state.new.content ≡ state.old.content) }
 {
     match prepare(alloc, state, entry) {
-        Ok(prepared) => {
-            let reply = issued(alloc, &prepared)?;
-            commit(state, prepared);
-            Ok(reply)
-        }
+        Ok(prepared) => match issued(alloc, &prepared) {
+            Ok(reply) => {
+                commit(state, prepared);
+                Ok(reply)
+            }
+            Err(AllocError) => {
+                drop(prepared);
+                Err(Stop::Memory)
+            }
+        },
         Err(ApplyFault::Unlicensed { rule }) => Ok(refusal_of(alloc, &rule)?),
         Err(ApplyFault::Memory) => Err(Stop::Memory),
     }
@@ -69,10 +69,10 @@ fn asked(
     alloc: Global,
     state: &State,
     form: &[Parameter],
-    at: u64,
+    now: u64,
 ) -> Result<Option<Entry>, AllocError>
-    requires { at ≤ 200_000_000_000 }
-    ensures entry { IfOk result (λ entry. entry ≡ asked_entry state.now.content.start form.now at) }
+    requires { now ≤ 200_000_000_000 }
+    ensures entry { IfOk result (λ entry. entry ≡ asked_entry state.now.content.start form.now now) }
     ensures form { IfOk result (λ entry. IfSome entry IsEntry) }
 {
     let Some(provider) = state.start_provider() else {
@@ -86,7 +86,7 @@ fn asked(
             provider: provider.name(alloc)?,
             token: Text::copy_of(alloc, token)?,
             scope: all_permissions(alloc)?,
-            at,
+            at: now,
         }))),
         None => Ok(None),
     }

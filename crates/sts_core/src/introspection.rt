@@ -1,11 +1,13 @@
-ghost use Rattle.std.specs.Prelude.{◌≡◌, ◌<◌, ◌^◌, IfOk, Some, length};
-ghost use Rattle.links.specs.Payload.{link_chain};
-ghost use Rattle.sts_core.specs.Machine.{introspection, is_bearer as bearer_is, told, token_chain};
+ghost use Rattle.std.specs.Prelude.{◌≡◌, ◌<◌, IfOk, length};
+ghost use Rattle.links.specs.State.{chain};
+ghost use Rattle.sts_core.specs.Check.{issued_chain};
+ghost use Rattle.sts_core.specs.Machine.{introspection, is_bearer as bearer_is, told};
 
 use crate::form::{is_all_text, once, read_form};
 use crate::reply::{inactive, json_reply, no_bearer, no_token, not_built};
+use access_token::write_active;
 use base_types::Text;
-use links::{Link, State, find_issued, is_live, write_active};
+use links::{State, facts_of, find_issued, live};
 use std::alloc::{AllocError, Global};
 use wif_base::{Reply, Request};
 
@@ -16,10 +18,9 @@ pub(crate) fn introspect(
     gate: &Text,
     state: &State,
     request: &Request,
-    at: u64,
+    now: u64,
 ) -> Result<Reply, AllocError>
-    requires { length state.now.content.entries < 2 ^ 32 }
-    ensures { IfOk result (λ reply. reply ≡ introspection gate.now state.now.content request.now at) }
+    ensures { IfOk result (λ reply. reply ≡ introspection gate.now state.now.content request.now now) }
 {
     if !is_bearer(gate, &request.bearer) {
         return no_bearer(alloc);
@@ -29,7 +30,7 @@ pub(crate) fn introspect(
         return not_built(alloc);
     }
     match once(form.as_slice(), "token") {
-        Some(token) => tell(alloc, state, token, at),
+        Some(token) => tell(alloc, state, token, now),
         None => no_token(alloc),
     }
 }
@@ -45,30 +46,22 @@ pub(crate) fn is_bearer(secret: &Text, bearer: &Option<Text>) -> bool
 }
 
 // What is told of a token.
-fn tell(alloc: Global, state: &State, token: &str, at: u64) -> Result<Reply, AllocError>
-    requires { length state.now.content.entries < 2 ^ 32 }
-    ensures { IfOk result (λ reply. reply ≡ told state.now.content at (token_chain state.now.content token.now)) }
+fn tell(alloc: Global, state: &State, token: &str, now: u64) -> Result<Reply, AllocError>
+    ensures { IfOk result (λ reply. reply ≡ told state.now.content now (issued_chain state.now.content token.now)) }
 {
-    let Some(number) = find_issued(alloc, state, token)? else {
-        return inactive(alloc);
-    };
-    match state.links().get(number as usize) {
-        Some(link) => tell_link(alloc, state, number, link, at),
-        None => inactive(alloc),
+    match find_issued(alloc, state, token)? {
+        Some(number) if number < state.link_count() => tell_link(alloc, state, number, now),
+        _ => inactive(alloc),
     }
 }
 
-fn tell_link(
-    alloc: Global,
-    state: &State,
-    number: u32,
-    link: &Link,
-    at: u64,
-) -> Result<Reply, AllocError>
-    ensures { IfOk result (λ reply. reply ≡ told state.now.content at (Some (link_chain number link.now))) }
+// What is told of the token of a link.
+fn tell_link(alloc: Global, state: &State, number: u32, now: u64) -> Result<Reply, AllocError>
+    requires { number < length state.now.content.links }
+    ensures { IfOk result (λ reply. reply ≡ told state.now.content now (chain state.now.content number)) }
 {
-    if !is_live(state, link, at) {
+    if !live(state, number, now) {
         return inactive(alloc);
     }
-    json_reply(write_active(alloc, state.issuer(), number, link)?)
+    json_reply(write_active(alloc, state.issuer(), facts_of(state, number))?)
 }

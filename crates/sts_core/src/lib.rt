@@ -7,13 +7,16 @@ mod checking;
 mod exchange;
 mod form;
 mod introspection;
+mod laws;
 mod refusal;
 mod reply;
 mod sts;
-#[cfg(test)]
-mod tests;
 mod unbuilt;
 
 pub use form::Parameter;
+pub use laws::{
+    checks_are_decided_by_their_links, each_step_keeps_the_journal_lawful,
+    gate_agrees_with_the_chain,
+};
 pub use reply::not_found;
-pub use sts::{Stop, Sts};
+pub use sts::{Setup, Stop, Sts, setup};

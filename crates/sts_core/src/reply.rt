@@ -1,14 +1,15 @@
-ghost use Rattle.std.specs.Prelude.{◌≡◌, ◌-◌, IfOk, OnOk, unwrap_or, []};
+ghost use Rattle.std.specs.Prelude.{◌≡◌, ◌-◌, IfOk, OnOk};
 ghost use Rattle.serde_json.specs.Data.{object, no_members};
 ghost use Rattle.serde_json.specs.View.{members_view};
 ghost use Rattle.serde_json.specs.Written.{compact_text};
-ghost use Rattle.links.specs.Payload.{words_text as joined};
 ghost use Rattle.sts_core.specs.Replies as replies;
 
+use access_token::{last_words, words_text};
 use base_types::{Bytes, Text};
 use grant_gate::{Decision, GateRule};
 use iam_names::ScopeWord;
-use links::{Entry, Prepared, put_text, words_text};
+use json_text::put_text;
+use links::Prepared;
 use serde_json::{Map, Value};
 use std::alloc::{AllocError, Global};
 use wif_base::Reply;
@@ -114,36 +115,31 @@ pub(crate) fn json_reply(text: Text) -> Result<Reply, AllocError>
 pub(crate) fn issued(alloc: Global, prepared: &Prepared) -> Result<Reply, AllocError>
     ensures { IfOk result (λ reply. reply ≡ replies.issued prepared.now) }
 {
-    let token = match &prepared.token {
-        Some(token) => token.as_str(),
-        None => "",
-    };
-    let exp = prepared.exp.unwrap_or(0);
-    let scope = words_text(alloc, scope_of(&prepared.entry))?;
-    let seconds = exp.saturating_sub(moment_of(&prepared.entry));
+    let token = prepared.token().unwrap_or("");
+    match prepared.recorded() {
+        Some(link) => {
+            let facts = &link.facts;
+            let words = last_words(facts.scopes.as_slice());
+            token_reply(alloc, token, facts.exp.saturating_sub(facts.iat), words)
+        }
+        None => token_reply(alloc, token, 0, &[]),
+    }
+}
+
+fn token_reply(
+    alloc: Global,
+    token: &str,
+    seconds: u64,
+    words: &[ScopeWord],
+) -> Result<Reply, AllocError>
+    ensures { IfOk result (λ reply. reply ≡ replies.token_reply token.now seconds words.now) }
+{
+    let scope = words_text(alloc, words)?;
     json_reply(issued_text(alloc, token, seconds, scope.as_str())?)
 }
 
-fn scope_of(entry: &Entry) -> &[ScopeWord]
-    ensures { result.now ≡ replies.scope_of entry.now }
-{
-    match entry {
-        Entry::Put(_) => &[],
-        Entry::Federated(exchange) => exchange.scope.as_slice(),
-    }
-}
-
-fn moment_of(entry: &Entry) -> u64
-    ensures { result ≡ replies.moment_of entry.now }
-{
-    match entry {
-        Entry::Put(_) => 0,
-        Entry::Federated(exchange) => exchange.at,
-    }
-}
-
 /// The reply to a command that is recorded: its entry's number, from 0.
-pub(crate) fn entered(alloc: Global, number: usize) -> Result<Reply, AllocError>
+pub(crate) fn entered(alloc: Global, number: u32) -> Result<Reply, AllocError>
     ensures { IfOk result (λ reply. reply ≡ replies.entered number) }
 {
     json_reply(Text::new(format!(in alloc; "{{\"entry\":{number}}}")?))
@@ -201,7 +197,9 @@ fn place_member(alloc: Global, rule: GateRule, place: usize) -> Result<Text, All
         GateRule::G5 | GateRule::G6 | GateRule::G7 => {
             Ok(Text::new(format!(in alloc; "\"place\":{place},")?))
         }
-        _ => Ok(Text::new(String::new(alloc))),
+        GateRule::G1 | GateRule::G2 | GateRule::G3 | GateRule::G4 | GateRule::G9 => {
+            Ok(Text::new(String::new(alloc)))
+        }
     }
 }
 

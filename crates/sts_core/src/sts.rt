@@ -1,5 +1,10 @@
-ghost use Rattle.std.specs.Prelude.{◌≡◌, ◌≤◌, IfOk, OnOk, OnErr, []};
-ghost use Rattle.sts_core.specs.Machine.{content_of, exchange as exchange_of, administration, checking, introspection, step, with_entry};
+ghost use Rattle.std.specs.Prelude.{◌≡◌, ◌≤◌, IfOk, OnOk, OnErr, List, []};
+ghost use Rattle.service_config.specs.declared.config.Config.{Config as Configuration};
+ghost use Rattle.service_config.specs.Formed.{IsFormedConfig};
+ghost use Rattle.links.specs.declared.entry.Entry.{Entry};
+ghost use Rattle.links.specs.State.{content_of};
+ghost use Rattle.sts_core.specs.Machine.{behind, exchange as exchange_of, administration, checking, introspection, step, with_entry};
+ghost use Rattle.sts_core.specs.State.{IsSetUp, Stands};
 
 use crate::administration::administer;
 use crate::checking::check;
@@ -7,7 +12,8 @@ use crate::exchange::exchange;
 use crate::introspection::introspect;
 use crate::reply::not_built;
 use base_types::Text;
-use links::{Config, State};
+use links::{State, start};
+use service_config::Config;
 use std::alloc::{AllocError, Global};
 use wif_base::{Disk, Reply, Request, Route};
 
@@ -15,17 +21,6 @@ use wif_base::{Disk, Reply, Request, Route};
 #[derive(Clone, Copy, Debug, PartialEq, Eq)]
 pub enum Stop {
     Memory,
-}
-
-/// The service over a disk.
-#[derive(Drop)]
-pub struct Sts<D> {
-    pub disk: D,
-    /// The bearer of admin commands.
-    pub admin: Text,
-    /// The bearer of checks and introspections.
-    pub gate: Text,
-    pub state: State,
 }
 
 impl From<AllocError> for Stop {
@@ -39,29 +34,43 @@ impl From<AllocError> for Stop {
     }
 }
 
-impl<D: Disk> Sts<D> {
-    ghost use Rattle.sts_core.specs.State.{configuration, journal};
+/// The service over a disk. What it stands for is a configuration and a journal that it doesn't keep.
+#[derive(Drop)]
+pub struct Sts<D> {
+    pub disk: D,
+    /// The bearer of admin commands.
+    pub admin: Text,
+    /// The bearer of checks and introspections.
+    pub gate: Text,
+    pub state: State,
+}
 
+impl<D: Disk> Sts<D> {
     /// The service of a configuration, with an empty journal.
     pub fn open(alloc: Global, disk: D, config: &Config) -> Result<Self, AllocError>
+        requires formed { IsFormedConfig config.now }
+        ensures stands { IfOk result (λ sts. Stands sts config.now []) }
         ensures disk { IfOk result (λ sts. sts.disk ≡ disk) }
-        ensures config { IfOk result (λ sts. configuration sts ≡ config.now) }
-        ensures journal { IfOk result (λ sts. journal sts ≡ []) }
     {
-        let config = config.copy(alloc)?;
-        let state = State::new(alloc, config.issuer, config.key, config.start)?;
-        Ok(Sts::start(disk, config.admin, config.gate, state))
+        match setup(alloc, config) {
+            Ok(setup) => Ok(Sts::resume(disk, setup)),
+            Err(AllocError) => {
+                drop(disk);
+                Err(AllocError)
+            }
+        }
     }
 
-    /// The service of a state, with the bearers of commands and of checks and introspections. It takes no memory.
-    pub fn start(disk: D, admin: Text, gate: Text, state: State) -> Self
-        ensures { result ≡ record { disk = disk; admin = admin; gate = gate; state = state } }
+    /// The service of what a configuration set up, with an empty journal. It takes no memory.
+    pub fn resume(disk: D, setup: Setup) -> Self
+        ensures stands { (config : Configuration) → IsSetUp setup config → Stands result config [] }
+        ensures disk { result.disk ≡ disk }
     {
         Sts {
             disk,
-            admin,
-            gate,
-            state,
+            admin: setup.admin,
+            gate: setup.gate,
+            state: setup.state,
         }
     }
 
@@ -73,80 +82,101 @@ impl<D: Disk> Sts<D> {
     }
 
     /// Answers a request of any route, at a moment in seconds since 1970-01-01T00:00:00Z. With 2^32 - 1 entries in
-    /// the journal an exchange or introspection stops for want of memory.
-    pub fn answer(&mut self, alloc: Global, request: &Request, at: u64) -> Result<Reply, Stop>
-        requires moment { at ≤ 200_000_000_000 }
-        ensures reply { IfOk result (λ reply. reply ≡ (step (configuration self.old) (journal self.old) request.now at).reply) }
-        ensures journal { OnOk result (journal self.new ≡ with_entry (journal self.old) (step (configuration self.old) (journal self.old) request.now at).entry) }
-        ensures config { configuration self.new ≡ configuration self.old }
+    /// the journal an exchange or a command stops for want of memory.
+    pub fn answer(&mut self, alloc: Global, request: &Request, now: u64) -> Result<Reply, Stop>
+        requires moment { now ≤ 200_000_000_000 }
+        ensures reply { (config : Configuration) (journal : List Entry) → Stands self.old config journal
+            → IfOk result (λ reply. reply ≡ (step config journal request.now now).reply) }
+        ensures stands { (config : Configuration) (journal : List Entry) → Stands self.old config journal
+            → OnOk result (Stands self.new config (with_entry journal (step config journal request.now now).entry)) }
+        ensures stays { (config : Configuration) (journal : List Entry) → Stands self.old config journal
+            → OnErr result (Stands self.new config journal) }
         ensures disk { self.new.disk ≡ self.old.disk }
-        ensures refused { OnErr result (self.new.state.content ≡ self.old.state.content) }
     {
         match &request.route {
-            Route::Token => self.exchange(alloc, request, at),
-            Route::Introspect => self.introspect(alloc, request, at),
-            Route::Check => self.check(alloc, request, at),
-            Route::Admin => self.admin(alloc, request, at),
-            _ => Ok(not_built(alloc)?),
+            Route::Token => self.exchange(alloc, request, now),
+            Route::Introspect => self.introspect(alloc, request, now),
+            Route::Check => self.check(alloc, request, now),
+            Route::Admin => self.admin(alloc, request, now),
+            Route::Generate { .. } => Ok(not_built(alloc)?),
         }
     }
 
-    /// Answers an exchange of an outside token for an access token (RFC 8693).
-    pub fn exchange(&mut self, alloc: Global, request: &Request, at: u64) -> Result<Reply, Stop>
-        requires moment { at ≤ 200_000_000_000 }
-        ensures reply { IfOk result (λ reply. reply ≡ (exchange_of (content_of (configuration self.old) (journal self.old)) request.now at).reply) }
-        ensures journal { OnOk result (journal self.new ≡ with_entry (journal self.old) (exchange_of (content_of (configuration self.old) (journal self.old)) request.now at).entry) }
-        ensures config { configuration self.new ≡ configuration self.old }
+    /// Answers an exchange of a subject token for an access token (RFC 8693).
+    pub fn exchange(&mut self, alloc: Global, request: &Request, now: u64) -> Result<Reply, Stop>
+        requires moment { now ≤ 200_000_000_000 }
+        ensures reply { (config : Configuration) (journal : List Entry) → Stands self.old config journal
+            → IfOk result (λ reply. reply ≡ (exchange_of (content_of config journal) request.now now).reply) }
+        ensures stands { (config : Configuration) (journal : List Entry) → Stands self.old config journal
+            → OnOk result (Stands self.new config (with_entry journal (exchange_of (content_of config journal) request.now now).entry)) }
+        ensures stays { (config : Configuration) (journal : List Entry) → Stands self.old config journal
+            → OnErr result (Stands self.new config journal) }
         ensures disk { self.new.disk ≡ self.old.disk }
-        ensures refused { OnErr result (self.new.state.content ≡ self.old.state.content) }
     {
-        // Its contract says that the state is the one that its entries leave.
-        let _count = self.state.entry_count();
         if self.state.is_full() {
             return Err(Stop::Memory);
         }
-        exchange(alloc, &mut self.state, request, at)
-    }
-
-    /// Answers whether a token is admitted to a permission on a resource: exactly where the link that it was issued for is
-    /// live and allows it and its principal is granted it, and for any other text by what it carries under the key.
-    pub fn check(&self, alloc: Global, request: &Request, at: u64) -> Result<Reply, Stop>
-        ensures { IfOk result (λ reply. reply ≡ checking self.now.gate (content_of (configuration self.now) (journal self.now)) request.now at) }
-    {
-        // Its contract says that the state is the one that its entries leave.
-        let _count = self.state.entry_count();
-        if self.state.is_full() {
-            return Err(Stop::Memory);
-        }
-        Ok(check(alloc, &self.gate, &self.state, request, at)?)
+        exchange(alloc, &mut self.state, request, now)
     }
 
     /// Answers a command of an administrator: what it puts stands in place of what stood under its name.
-    pub fn admin(&mut self, alloc: Global, request: &Request, at: u64) -> Result<Reply, Stop>
-        ensures reply { IfOk result (λ reply. reply ≡ (administration self.old.admin (content_of (configuration self.old) (journal self.old)) request.now).reply) }
-        ensures journal { OnOk result (journal self.new ≡ with_entry (journal self.old) (administration self.old.admin (content_of (configuration self.old) (journal self.old)) request.now).entry) }
-        ensures config { configuration self.new ≡ configuration self.old }
+    pub fn admin(&mut self, alloc: Global, request: &Request, now: u64) -> Result<Reply, Stop>
+        ensures reply { (config : Configuration) (journal : List Entry) → Stands self.old config journal
+            → IfOk result (λ reply. reply ≡ (administration config.admin (content_of config journal) request.now).reply) }
+        ensures stands { (config : Configuration) (journal : List Entry) → Stands self.old config journal
+            → OnOk result (Stands self.new config (with_entry journal (administration config.admin (content_of config journal) request.now).entry)) }
+        ensures stays { (config : Configuration) (journal : List Entry) → Stands self.old config journal
+            → OnErr result (Stands self.new config journal) }
         ensures disk { self.new.disk ≡ self.old.disk }
-        ensures refused { OnErr result (self.new.state.content ≡ self.old.state.content) }
     {
-        let _ = at;
-        // Its contract says that the state is the one that its entries leave.
-        let _count = self.state.entry_count();
+        let _ = now;
         if self.state.is_full() {
             return Err(Stop::Memory);
         }
         administer(alloc, &self.admin, &mut self.state, request)
     }
 
-    /// Answers an introspection (RFC 7662).
-    pub fn introspect(&self, alloc: Global, request: &Request, at: u64) -> Result<Reply, Stop>
-        ensures { IfOk result (λ reply. reply ≡ introspection self.now.gate (content_of (configuration self.now) (journal self.now)) request.now at) }
+    /// Answers whether a token is admitted to a permission on a resource: exactly where the link that it was issued for is
+    /// live and allows it and its principal is granted it, and for any other text by what it carries under the key.
+    pub fn check(&self, alloc: Global, request: &Request, now: u64) -> Result<Reply, Stop>
+        ensures { (config : Configuration) (journal : List Entry) → Stands self.now config journal
+            → IfOk result (λ reply. reply ≡ checking config.gate (content_of config journal) request.now now) }
     {
-        // Its contract says that the state is the one that its entries leave.
-        let _count = self.state.entry_count();
-        if self.state.is_full() {
-            return Err(Stop::Memory);
+        Ok(check(alloc, &self.gate, &self.state, request, now)?)
+    }
+
+    /// Answers an introspection (RFC 7662).
+    pub fn introspect(&self, alloc: Global, request: &Request, now: u64) -> Result<Reply, Stop>
+        ensures { (config : Configuration) (journal : List Entry) → Stands self.now config journal
+            → IfOk result (λ reply. reply ≡ introspection config.gate (content_of config journal) request.now now) }
+    {
+        Ok(introspect(alloc, &self.gate, &self.state, request, now)?)
+    }
+}
+
+/// What a configuration sets up: the secrets, and the state before the first entry.
+#[derive(Drop)]
+pub struct Setup {
+    /// The bearer of admin commands.
+    pub admin: Text,
+    /// The bearer of checks and introspections.
+    pub gate: Text,
+    pub state: State,
+}
+
+/// Sets up a configuration, before a disk is looked at.
+pub fn setup(alloc: Global, config: &Config) -> Result<Setup, AllocError>
+    requires formed { IsFormedConfig config.now }
+    ensures { IfOk result (λ setup. IsSetUp setup config.now) }
+{
+    let admin = config.admin.copy(alloc)?;
+    let gate = config.gate.copy(alloc)?;
+    match start(alloc, config) {
+        Ok(state) => Ok(Setup { admin, gate, state }),
+        Err(AllocError) => {
+            drop(admin);
+            drop(gate);
+            Err(AllocError)
         }
-        Ok(introspect(alloc, &self.gate, &self.state, request, at)?)
     }
 }

@@ -1,4 +1,5 @@
 pub mod Cuts
+mod Counted
 mod Replying
 pub mod Runs
 mod Stages

@@ -10,7 +10,7 @@ use Rattle.wif_base.proofs.Outputs as outputs
 use Rattle.wif_base.specs.Carried.{Carried, input_limit}
 use Rattle.wif_base.specs.Output.{IsProperPart}
 use Rattle.wif_base.specs.declared.request.Reply.{Reply}
-use Rattle.links.specs.declared.config.Config.{Config}
+use Rattle.service_config.specs.declared.config.Config.{Config}
 use Rattle.sts_core.specs.declared.sts.Stop.TheVariants.{Memory}
 use Rattle.links.specs.declared.entry.Entry.{Entry}
 use Rattle.sts_core.specs.Machine.{with_entry}
@@ -169,8 +169,10 @@ module _ (config : Config) (before : List Entry) (left taken : Option (List ℕ)
         rest = carry.unused;
         script = so_far.script;
         answered = length so_far.frames;
+        within = omega arith;
         output = whole.0;
         recorded = length so_far.frames;
+        cut = λ other. whole.1;
         begun = inl (refl, whole.1);
         journal = so_far.journal ∙ ap (λ (fs : List Frame). entries_after (answer config) before fs) (sym (take_all (length so_far.frames) so_far.frames (omega arith)));
         ends = ends;
@@ -182,9 +184,9 @@ module _ (config : Config) (before : List Entry) (left taken : Option (List ℕ)
       → ((frames : List Frame) (rest : List ℕ) (answered : ℕ) → EndsAs end so_far.read left' frames rest answered)
       → IsFrame frame → carry.unused ≡ frame_text frame ++ rest
       → ((part : List ℕ) × IsProperPart part (reply_text (answer config now frame).reply) × Appends taken' taken'' part
-      × (((after ≡ now) × (part ≡ [])) ⊎ (after ≡ with_entry now (answer config now frame).entry)))
+      × (end ≢ WriteFault → part ≡ []) × (((after ≡ now) × (part ≡ [])) ⊎ (after ≡ with_entry now (answer config now frame).entry)))
       → ScriptRun config before after left left' taken taken'' end
-  broken_off now after left' taken' taken'' carry rest used frame end so_far any is fits (part, proper, writes, records) =
+  broken_off now after left' taken' taken'' carry rest used frame end so_far any is fits (part, proper, writes, uncut, records) =
       let frames = so_far.frames in
       let text = reply_text (answer config now frame).reply in
       let same : reply_text (answer config (entries_after (answer config) before frames) frame).reply ≡ text =
@@ -206,8 +208,10 @@ module _ (config : Config) (before : List Entry) (left taken : Option (List ℕ)
           each = all-push frames frame so_far.script.each is;
         };
         answered = length frames;
+        within = omega (arith, length-append frames (frame ∷ []));
         output = within.0;
         recorded = recorded;
+        cut = λ other. within.1 ∙ uncut other;
         begun = ⊎_elim (λ same. inl (same.0, within.1 ∙ same.1)) (λ more. inr more) begun;
         journal = journal;
         ends = any (frames ++ frame ∷ []) rest (length frames);
@@ -232,27 +236,23 @@ some_frame frame =
     let rest = 32 ∷ (bearer_text frame.bearer ++ (32 ∷ (decimal frame.moment ++ (32 ∷ (decimal (length frame.body) ++ (10 ∷ (frame.body ++ (10 ∷ [])))))))) in
     omega (arith, length-append frame.path rest)
 
--- the same where the service's configuration is known to be this one
-pub answered_under : (config' config : Config) (before : List Entry) (left taken : Option (List ℕ)) (now after : List Entry) (left' taken' taken'' : Option (List ℕ)) (old new : Carried) (used size : ℕ) (frame : Frame)
-    → config' ≡ config → SoFar config before now left left' taken taken' old used
+-- a frame that was found at the front was answered
+pub answered_found : (config : Config) (before : List Entry) (left taken : Option (List ℕ)) (now after : List Entry) (left' taken' taken'' : Option (List ℕ)) (old new : Carried) (used size : ℕ) (frame : Frame)
+    → SoFar config before now left left' taken taken' old used
     → IsFound old.unused (Whole frame size) → new.unused ≡ drop size old.unused → new.taken ≡ old.taken
-    → Appends taken' taken'' (reply_text (answer config' now frame).reply) × (after ≡ with_entry now (answer config' now frame).entry)
+    → Appends taken' taken'' (reply_text (answer config now frame).reply) × (after ≡ with_entry now (answer config now frame).entry)
     → SoFar config before after left left' taken taken'' new (used + size)
-answered_under config' config before left taken now after left' taken' taken'' old new used size frame same so_far found rest count answers =
-    answered config before left taken now after left' taken' taken'' old new used size frame so_far found.0 found.1 found.2 rest count
-    (subst (λ (k : Config). Appends taken' taken'' (reply_text (answer k now frame).reply)) same answers.0)
-    (answers.1 ∙ ap (λ (k : Config). with_entry now (answer k now frame).entry) same)
+answered_found config before left taken now after left' taken' taken'' old new used size frame so_far found rest count answers =
+    answered config before left taken now after left' taken' taken'' old new used size frame so_far found.0 found.1 found.2 rest count answers.0 answers.1
 
-pub broken_under : (config' config : Config) (before : List Entry) (left taken : Option (List ℕ)) (now after : List Entry) (left' taken' taken'' : Option (List ℕ)) (carry : Carried) (used size : ℕ) (frame : Frame) (end : Served)
-    → config' ≡ config → SoFar config before now left left' taken taken' carry used → carry.taken ≤ input_limit
+pub broken_found : (config : Config) (before : List Entry) (left taken : Option (List ℕ)) (now after : List Entry) (left' taken' taken'' : Option (List ℕ)) (carry : Carried) (used size : ℕ) (frame : Frame) (end : Served)
+    → SoFar config before now left left' taken taken' carry used → carry.taken ≤ input_limit
     → IsFound carry.unused (Whole frame size) → (end ≡ WriteFault) ⊎ (end ≡ Stopped Memory)
-    → ((part : List ℕ) × IsProperPart part (reply_text (answer config' now frame).reply) × Appends taken' taken'' part
-    × (((after ≡ now) × (part ≡ [])) ⊎ (after ≡ with_entry now (answer config' now frame).entry)))
+    → ((part : List ℕ) × IsProperPart part (reply_text (answer config now frame).reply) × Appends taken' taken'' part
+    × (end ≢ WriteFault → part ≡ []) × (((after ≡ now) × (part ≡ [])) ⊎ (after ≡ with_entry now (answer config now frame).entry)))
     → ScriptRun config before after left left' taken taken'' end
-broken_under config' config before left taken now after left' taken' taken'' carry used size frame end same so_far within found is answers =
-    broken_off config before left taken now after left' taken' taken'' carry (drop size carry.unused) used frame end so_far (any_end end left' so_far.read is (omega (arith, so_far.size, within))) found.0 found.2
-    (subst (λ (k : Config). (part : List ℕ) × IsProperPart part (reply_text (answer k now frame).reply) × Appends taken' taken'' part
-    × (((after ≡ now) × (part ≡ [])) ⊎ (after ≡ with_entry now (answer k now frame).entry))) same answers)
+broken_found config before left taken now after left' taken' taken'' carry used size frame end so_far within found is answers =
+    broken_off config before left taken now after left' taken' taken'' carry (drop size carry.unused) used frame end so_far (any_end end left' so_far.read is (omega (arith, so_far.size, within))) found.0 found.2 answers
 
 nil_or : (xs : List ℕ) → (xs ≡ []) ⊎ (xs ≢ [])
 nil_or [] = inl refl

@@ -5,7 +5,7 @@ use Rattle.std.specs.Fmt.{decimal}
 use Rattle.wif_base.specs.Routes.{route}
 use Rattle.wif_base.specs.declared.route.Route.{Route}
 use Rattle.wif_base.specs.declared.request.Reply.{Reply}
-use Rattle.links.specs.declared.config.Config.{Config}
+use Rattle.service_config.specs.declared.config.Config.{Config}
 use Rattle.links.specs.declared.entry.Entry.{Entry}
 use Rattle.sts_core.specs.Machine.{Answer, step, no_entry}
 use Rattle.sts_core.specs.Replies.{not_found}

@@ -3,12 +3,13 @@ use Rattle.std.specs.Prelude.{◌≡◌, ◌≢◌, ◌≤◌, ◌⊎◌, ℕ, �
 use Rattle.std.specs.Io.KnownBytes.{Consumes, Appends, IsAtEnd}
 use Rattle.wif_base.specs.Carried.{input_limit}
 use Rattle.wif_base.specs.Output.{OutputIs}
-use Rattle.links.specs.declared.config.Config.{Config}
+use Rattle.service_config.specs.declared.config.Config.{Config}
 use Rattle.links.specs.declared.entry.Entry.{Entry}
 use Rattle.sts_core.specs.Runs.{replies_of, entries_after}
 use Rattle.sts_serve.specs.Frames.{ScriptBegins, NoFrame, NeverFrame, reply_frames, answer, script_text}
 use Rattle.sts_serve.specs.declared.frame.Frame.{Frame}
 use Rattle.sts_serve.specs.declared.served.Served.{Served}
+use Rattle.sts_core.specs.declared.sts.Stop.TheVariants.{Memory}
 use Rattle.sts_serve.specs.declared.served.Served.TheVariants.{Done, ReadFault, WriteFault, ClockFault, Malformed, InputLimit, Stopped}
 
 -- What is known of each end: the bytes read, what the source has left, the frames that were found in them and the
@@ -25,7 +26,7 @@ EndsAs ReadFault read left frames rest answered = NoFrame rest × (answered ≡ 
 EndsAs InputLimit read left frames rest answered = (length read ≡ input_limit + 1) × (answered ≡ length frames)
     × ((within : List ℕ) × (last : ℕ) × (rest ≡ within ++ last ∷ []) × NoFrame within)
 EndsAs WriteFault read left frames rest answered = length read ≤ input_limit
-EndsAs (Stopped stop) read left frames rest answered = ⊤
+EndsAs (Stopped Memory) read left frames rest answered = ⊤
 -- a script asks for no moment
 EndsAs ClockFault read left frames rest answered = ⊥
 
@@ -41,9 +42,12 @@ pub record ScriptRun (config : Config) (before after : List Entry) (left left' t
   pub script : ScriptBegins read frames rest
   -- the output is the replies to the first of them, so many, and a proper part of the next reply
   pub answered : ℕ
+  pub within : answered ≤ length frames
   pub output : OutputIs (reply_frames (replies_of (answer config) before frames)) answered written
   -- the journal has the entries of the requests answered whole, or of one more; a reply is begun only behind its entry
   pub recorded : ℕ
+  -- a reply is cut short by a write fault alone
+  pub cut : end ≢ WriteFault → output.part ≡ []
   pub begun : ((recorded ≡ answered) × (output.part ≡ [])) ⊎ (recorded ≡ answered + 1)
   pub journal : after ≡ entries_after (answer config) before (take recorded frames)
   pub ends : EndsAs end read left' frames rest answered

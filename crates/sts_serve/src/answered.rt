@@ -1,7 +1,9 @@
-ghost use Rattle.std.specs.Prelude.{◌≡◌, ◌≤◌, ◌⊎◌, IfOk, IfErr, OnOk, OnErr};
+ghost use Rattle.std.specs.Prelude.{◌≡◌, ◌≤◌, ◌⊎◌, List, IfOk, IfErr, OnOk, OnErr};
 ghost use Rattle.wif_base.specs.Causes.{Rose};
 ghost use Rattle.sts_core.specs.Machine.{with_entry};
-ghost use Rattle.sts_core.specs.State.{configuration, journal};
+ghost use Rattle.service_config.specs.declared.config.Config.{Config};
+ghost use Rattle.links.specs.declared.entry.Entry.{Entry};
+ghost use Rattle.sts_core.specs.State.{Stands};
 ghost use Rattle.sts_serve.specs.Frames.{answer, reply_text};
 ghost use Rattle.sts_serve.specs.Answered.{Answers};
 
@@ -18,10 +20,9 @@ pub(crate) fn answer_frame<O: Sink, D: Disk>(
     frame: Frame,
 ) -> Result<(), Served>
     requires { frame.moment ≤ 200_000_000_000 }
-    ensures answers { Answers (O.taken output.old) (O.taken output.new)
-        (reply_text (answer (configuration sts.old) (journal sts.old) frame).reply) (journal sts.old)
-        (with_entry (journal sts.old) (answer (configuration sts.old) (journal sts.old) frame).entry) (journal sts.new) result }
-    ensures config { configuration sts.new ≡ configuration sts.old }
+    ensures answers { (config : Config) (journal : List Entry) → Stands sts.old config journal
+        → (after : List Entry) × Stands sts.new config after
+        × Answers (O.taken output.old) (O.taken output.new) (reply_text (answer config journal frame).reply) journal (with_entry journal (answer config journal frame).entry) after result }
     ensures disk { sts.new.disk ≡ sts.old.disk }
     ensures cause { result ≡ Err Served.WriteFault → Rose (O.faults output.old) (O.faults output.new) }
     ensures ends { IfErr result (λ end. (end ≡ Served.WriteFault) ⊎ (end ≡ Served.Stopped Stop.Memory)) }
@@ -32,9 +33,14 @@ pub(crate) fn answer_frame<O: Sink, D: Disk>(
         Ok(reply) => reply,
         Err(stop) => return Err(Served::Stopped(stop)),
     };
-    let Ok(text) = reply_bytes(alloc, &reply) else {
-        return Err(Served::Stopped(Stop::Memory));
+    let text = match reply_bytes(alloc, &reply) {
+        Ok(text) => text,
+        Err(AllocError) => {
+            drop(reply);
+            return Err(Served::Stopped(Stop::Memory));
+        }
     };
+    drop(reply);
     match write_text(output, text.as_slice()) {
         Ok(()) => Ok(()),
         Err(Failed) => Err(Served::WriteFault),
@@ -44,11 +50,11 @@ pub(crate) fn answer_frame<O: Sink, D: Disk>(
 // The machine's reply to a frame.
 fn reply_to<D: Disk>(alloc: Global, sts: &mut Sts<D>, frame: Frame) -> Result<Reply, Stop>
     requires { frame.moment ≤ 200_000_000_000 }
-    ensures reply { IfOk result (λ reply. reply ≡ (answer (configuration sts.old) (journal sts.old) frame).reply) }
-    ensures journal { OnOk result (journal sts.new ≡ with_entry (journal sts.old) (answer (configuration sts.old) (journal sts.old) frame).entry) }
-    ensures config { configuration sts.new ≡ configuration sts.old }
+    ensures reply { (config : Config) (journal : List Entry) → Stands sts.old config journal → IfOk result (λ reply. reply ≡ (answer config journal frame).reply) }
+    ensures stands { (config : Config) (journal : List Entry) → Stands sts.old config journal
+        → OnOk result (Stands sts.new config (with_entry journal (answer config journal frame).entry)) }
+    ensures stays { (config : Config) (journal : List Entry) → Stands sts.old config journal → OnErr result (Stands sts.new config journal) }
     ensures disk { sts.new.disk ≡ sts.old.disk }
-    ensures refused { OnErr result (journal sts.new ≡ journal sts.old) }
     ensures memory { IfErr result (λ stop. stop ≡ Stop.Memory) }
 {
     match route_of(alloc, frame.path.as_str())? {

@@ -11,7 +11,7 @@ mod script;
 mod served;
 
 pub use frame::{Found, Frame};
-pub use laws::one_script;
+pub use laws::{one_script, output_fixes_the_answered};
 pub use read::read_frame;
 pub use script::run_script;
 pub use served::Served;

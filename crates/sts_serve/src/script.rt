@@ -1,6 +1,8 @@
-ghost use Rattle.std.specs.Prelude.{◌≡◌, ◌≢◌, ◌≤◌, ◌+◌, ◌-◌, ◌*◌, length, []};
+ghost use Rattle.std.specs.Prelude.{◌≡◌, ◌≢◌, ◌≤◌, ◌+◌, ◌-◌, ◌*◌, List, length, []};
 ghost use Rattle.wif_base.specs.Causes.{Rose};
-ghost use Rattle.sts_core.specs.State.{configuration, journal};
+ghost use Rattle.service_config.specs.declared.config.Config.{Config};
+ghost use Rattle.links.specs.declared.entry.Entry.{Entry};
+ghost use Rattle.sts_core.specs.State.{Stands};
 ghost use Rattle.sts_serve.specs.Served.{ScriptRun};
 
 use crate::answered::answer_frame;
@@ -16,9 +18,9 @@ pub fn run_script<I: Source, O: Sink, D: Disk>(
     input: &mut I,
     output: &mut O,
 ) -> Served
-    ensures run { ScriptRun (configuration sts.old) (journal sts.old) (journal sts.new)
-        (I.left input.old) (I.left input.new) (O.taken output.old) (O.taken output.new) result }
-    ensures config { configuration sts.new ≡ configuration sts.old }
+    ensures run { (config : Config) (journal : List Entry) → Stands sts.old config journal
+        → (after : List Entry) × Stands sts.new config after
+        × ScriptRun config journal after (I.left input.old) (I.left input.new) (O.taken output.old) (O.taken output.new) result }
     ensures disk { sts.new.disk ≡ sts.old.disk }
 
     // The causes of the faults.

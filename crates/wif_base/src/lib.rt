@@ -5,6 +5,7 @@
 mod carry;
 mod clock;
 mod disk;
+mod drip_source;
 mod failed;
 mod file_disk;
 mod file_source;
@@ -25,6 +26,7 @@ mod written;
 pub use carry::{Carry, INPUT_LIMIT, More};
 pub use clock::{Clock, LAST_MOMENT};
 pub use disk::Disk;
+pub use drip_source::DripSource;
 pub use failed::Failed;
 pub use file_disk::FileDisk;
 pub use file_source::FileSource;

@@ -8,13 +8,14 @@ use Rattle.serde_json.specs.Data.{Data}
 use Rattle.serde_json.specs.Find.{get, as_object}
 use Rattle.json_text.specs.Clean.{HasUtf8}
 use Rattle.json_text.specs.Document.{document, text_at}
-use Rattle.json_text.specs.Forms.{has_size, passing}
+use Rattle.base_types.specs.Forms.{has_size, passing}
 use Rattle.json_text.proofs.FoundTexts.{get_utf8, text_at_utf8}
 use Rattle.json_text.proofs.ValueTexts.{read_document_utf8}
 use Rattle.cel_values.specs.declared.value.Value.{Value}
 use Rattle.cel_values.specs.Values.{value_of}
 use Rattle.wif_claims.specs.Forms.{HasForms}
-use Rattle.wif_claims.specs.Payload.{date_of, optional_date, audiences, actor_of, actors, claims_of_data, claims_of}
+use Rattle.json_text.specs.Members.{date_of}
+use Rattle.wif_claims.specs.Payload.{optional_date, audiences, actor_of, actors, claims_of_data, claims_of}
 use Rattle.wif_claims.specs.declared.claims.Claims.{Claims}
 use Rattle.wif_claims.specs.declared.claims.ClaimFault.TheVariants.{Json, NotObject, Iss, Aud, Exp, Nbf, Iat, MayAct}
 use Rattle.wif_claims.proofs.HeldForms.{date-below, after-needed, free}

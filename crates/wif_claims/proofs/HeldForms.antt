@@ -6,10 +6,12 @@ use Rattle.std.specs.List.{AllByRecursion}
 use Rattle.std.proofs.lemmas.Bool.{ltb-true}
 use Rattle.serde_json.specs.Data.{Data}
 use Rattle.serde_json.specs.Find.{get, as_number, as_object, as_u64}
+use Rattle.base_types.specs.Forms.{passing}
+use Rattle.base_types.specs.Steps.{◌>>=◌, needed}
 use Rattle.json_text.specs.Document.{text_at}
-use Rattle.json_text.specs.Forms.{passing}
+use Rattle.json_text.specs.Members.{date_of}
 use Rattle.wif_claims.specs.Forms.{HasForms}
-use Rattle.wif_claims.specs.Payload.{date_of, optional_date, audiences, actor_of, actors, claims_of_data, needed, ◌>>=◌}
+use Rattle.wif_claims.specs.Payload.{optional_date, audiences, actor_of, actors, claims_of_data}
 use Rattle.wif_claims.specs.declared.claims.Claims.{Claims}
 use Rattle.wif_claims.specs.declared.claims.ClaimFault.{ClaimFault}
 use Rattle.wif_claims.specs.declared.claims.ClaimFault.TheVariants.{NotObject, Iss, Aud, Exp, Nbf, Iat, MayAct}

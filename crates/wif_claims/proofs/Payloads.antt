@@ -1,8 +1,9 @@
 -- What an answer says of a payload.
 use Rattle.std.proofs.Common.{◌≡◌, ◌≢◌, ◌⊎◌, inl, inr, ℕ, List, None, Some, Result, Ok, Err, IfOk, IfErr, sym, ap, ◌∙◌}
 use Rattle.serde_json.specs.Data.{Data}
+use Rattle.base_types.specs.Steps.{◌>>=◌, needed}
 use Rattle.json_text.specs.Document.{document}
-use Rattle.wif_claims.specs.Payload.{claims_of, claims_of_data, needed, ◌>>=◌}
+use Rattle.wif_claims.specs.Payload.{claims_of, claims_of_data}
 use Rattle.wif_claims.specs.declared.claims.Claims.{Claims}
 use Rattle.wif_claims.specs.declared.claims.ClaimFault.{ClaimFault}
 use Rattle.wif_claims.specs.declared.claims.ClaimFault.TheVariants.{Json, Memory}

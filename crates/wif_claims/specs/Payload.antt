@@ -1,17 +1,15 @@
 -- The claims of a payload, or the first rule that it fails.
-use Rattle.std.specs.Prelude.{ℕ, zero, suc, ◌^◌, List, [], ◌∷◌, Option, None, Some, option_map, option_and_then, Result, Ok, Err, nat_lt, codes}
+use Rattle.std.specs.Prelude.{ℕ, zero, suc, List, [], ◌∷◌, Option, None, Some, option_map, option_and_then, Result, Ok, codes}
 use Rattle.serde_json.specs.Data.{Data, null, boolean, number, string, array, object}
-use Rattle.serde_json.specs.Find.{get, as_number, as_object, as_u64}
+use Rattle.serde_json.specs.Find.{get, as_object}
+use Rattle.base_types.specs.Forms.{has_size, passing}
+use Rattle.base_types.specs.Steps.{◌>>=◌, needed}
 use Rattle.json_text.specs.Document.{document, text_at, item_texts}
-use Rattle.json_text.specs.Forms.{has_size, passing}
+use Rattle.json_text.specs.Members.{date_of}
 use Rattle.cel_values.specs.Values.{value_of}
 use Rattle.wif_claims.specs.declared.claims.Claims.{Claims}
 use Rattle.wif_claims.specs.declared.claims.ClaimFault.{ClaimFault}
 use Rattle.wif_claims.specs.declared.claims.ClaimFault.TheVariants.{Json, NotObject, Iss, Aud, Exp, Nbf, Iat, MayAct}
-
--- a whole number of seconds below 2^53
-abbrev pub date_of : Data → Option ℕ
-date_of d = option_and_then (passing (λ n. nat_lt n (2 ^ 53))) (option_and_then as_u64 (as_number d))
 
 -- the date where a member is there
 abbrev pub optional_date : Option Data → Option (Option ℕ)
@@ -38,16 +36,6 @@ actors count None = Some []
 actors zero (Some d) = None
 actors (suc count) (Some d) =
     option_and_then (λ actor. option_map (λ more. actor ∷ more) (actors count (get (codes "may_act") d))) (actor_of d)
-
-infixl 10 ◌>>=◌
-abbrev pub ◌>>=◌ : {X Y : Type 0} → Result X ClaimFault → (X → Result Y ClaimFault) → Result Y ClaimFault
-(Ok x) >>= next = next x
-(Err fault) >>= next = Err fault
-
--- the value, or the fault of the rule that asks for one
-abbrev pub needed : {X : Type 0} → ClaimFault → Option X → Result X ClaimFault
-needed fault None = Err fault
-needed fault (Some x) = Ok x
 
 -- the claims of a JSON value
 unfoldable pub claims_of_data : Data → Result Claims ClaimFault

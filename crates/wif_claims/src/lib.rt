@@ -5,8 +5,6 @@ mod claims;
 mod members;
 mod moments;
 mod reading;
-#[cfg(test)]
-mod tests;
 
 pub use claims::{ClaimFault, Claims, When};
 pub use moments::timing;

@@ -1,27 +1,15 @@
 ghost use Rattle.std.specs.Prelude.{◌≡◌, option_map, option_and_then, IfOk, IfSome, IsUtf8};
 ghost use Rattle.std.specs.List.{AllByRecursion};
 ghost use Rattle.serde_json.specs.View.{view};
-ghost use Rattle.wif_claims.specs.Payload.{date_of as date_member, optional_date as optional_date_member, audiences, actor_of, actors};
+ghost use Rattle.json_text.specs.Members.{date_of as date_member};
+ghost use Rattle.wif_claims.specs.Payload.{optional_date as optional_date_member, audiences, actor_of, actors};
 
-use base_types::{Items, Text};
-use json_text::{has_size, text_at, texts_of_items};
+use base_types::{Items, Text, has_size};
+use json_text::{date_of, text_at, texts_of_items};
 use serde_json::Value;
 use std::alloc::{AllocError, Global};
 
-const DATE_LIMIT: u64 = 1 << 53;
-
 const MAX_ACTORS: usize = 8;
-
-fn date_of(value: &Value) -> Option<u64>
-    ensures { result ≡ date_member (view value.now) }
-{
-    let seconds = value.as_u64()?;
-    if seconds < DATE_LIMIT {
-        Some(seconds)
-    } else {
-        None
-    }
-}
 
 pub(crate) fn needed_date(member: Option<&Value>) -> Option<u64>
     ensures { result ≡ option_and_then date_member (option_map (λ v. view v.now) member.entry) }

@@ -9,12 +9,13 @@ use Rattle.wif_base.specs.Carried.{input_limit}
 use Rattle.wif_base.specs.Output.{IsProperPart}
 use Rattle.wif_base.proofs.Known.{appends-then}
 use Rattle.wif_base.proofs.Outputs.{all_written}
-use Rattle.links.specs.declared.config.Config.{Config}
+use Rattle.service_config.specs.declared.config.Config.{Config}
 use Rattle.links.specs.declared.entry.Entry.{Entry}
-use Rattle.links.specs.Configuration.{IsConfiguration, config_limit}
+use Rattle.service_config.specs.Configuration.{IsConfiguration, config_limit}
 use Rattle.sts_serve.specs.Frames.{IsFrame, script_text, frame_text, NoFrame, NeverFrame, ScriptSpells, reply_frames, answer}
 use Rattle.sts_serve.specs.Served.{EndsAs, ScriptRun}
 use Rattle.sts_serve.specs.declared.frame.Frame.{Frame}
+use Rattle.sts_core.specs.declared.sts.Stop.TheVariants.{Memory}
 use Rattle.sts_serve.specs.declared.served.Served.{Served}
 use Rattle.sts_serve.specs.declared.served.Served.TheVariants.{Done, ReadFault, WriteFault, ClockFault, Malformed, InputLimit, Stopped}
 use Rattle.sts_serve.proofs.Runs.{length-texts, texts, some_frame}
@@ -69,13 +70,13 @@ not_taken left bytes left' read setup told none config is =
 
 not_due : (line : List ℕ) (due : ℕ) (taken taken' : Option (List ℕ)) (status : ℕ) → LineDue line due taken taken' status → status ≢ due → status ≢ 4 → status ≢ 7 → ⊥
 not_due line due taken taken' status (inl at) other four seven = other at.0
-not_due line due taken taken' status (inr (inl at, part)) other four seven = four at
-not_due line due taken taken' status (inr (inr at, part)) other four seven = seven at
+not_due line due taken taken' status (inr (inl at)) other four seven = four at.0
+not_due line due taken taken' status (inr (inr at)) other four seven = seven at.0
 
 is_due : (line : List ℕ) (due : ℕ) (taken taken' : Option (List ℕ)) (status : ℕ) → LineDue line due taken taken' status → status ≢ 4 → status ≢ 7 → Appends taken taken' line
 is_due line due taken taken' status (inl at) four seven = at.1
-is_due line due taken taken' status (inr (inl at, part)) four seven = absurd (four at)
-is_due line due taken taken' status (inr (inr at, part)) four seven = absurd (seven at)
+is_due line due taken taken' status (inr (inl at)) four seven = absurd (four at.0)
+is_due line due taken taken' status (inr (inr at)) four seven = absurd (seven at.0)
 
 module _ (config : Config) (before after : List Entry) (left left' taken : Option (List ℕ)) where
   replied_all : (mid : Option (List ℕ)) (end : Served) (run : ScriptRun config before after left left' taken mid end) → run.answered ≡ length run.frames
@@ -113,7 +114,7 @@ module _ (config : Config) (before after : List Entry) (left left' taken : Optio
   by_end ClockFault mid taken' run closes = absurd (omega (arith, closes.0))
   by_end (Malformed at) mid taken' run closes = absurd (not_due (malformed_line at) 8 mid taken' 0 closes (omega arith) (omega arith) (omega arith))
   by_end InputLimit mid taken' run closes = absurd (omega (arith, closes.0))
-  by_end (Stopped stop) mid taken' run closes = absurd (omega (arith, closes.0))
+  by_end (Stopped Memory) mid taken' run closes = absurd (omega (arith, closes.0))
 
   pub status_zero : (taken' : Option (List ℕ)) (status : ℕ) → status ≡ 0 → ScriptOutcome config before after left left' taken taken' status → AllAnswered config before left left' taken taken'
   status_zero taken' status is outcome = by_end outcome.end outcome.replied taken' outcome.run (subst (λ (s : ℕ). Closes outcome.end outcome.replied taken' s) is outcome.closes)
@@ -125,7 +126,7 @@ module _ (config : Config) (before after : List Entry) (left left' taken : Optio
   by_line ClockFault mid taken' run closes = absurd (omega (arith, closes.0))
   by_line (Malformed at) mid taken' run closes = malformed_of at mid taken' run (is_due (malformed_line at) 8 mid taken' 8 closes (omega arith) (omega arith))
   by_line InputLimit mid taken' run closes = absurd (omega (arith, closes.0))
-  by_line (Stopped stop) mid taken' run closes = absurd (omega (arith, closes.0))
+  by_line (Stopped Memory) mid taken' run closes = absurd (omega (arith, closes.0))
 
   pub status_eight : (taken' : Option (List ℕ)) (status : ℕ) → status ≡ 8 → ScriptOutcome config before after left left' taken taken' status → AnsweredUpTo config before left left' taken taken'
   status_eight taken' status is outcome = by_line outcome.end outcome.replied taken' outcome.run (subst (λ (s : ℕ). Closes outcome.end outcome.replied taken' s) is outcome.closes)
@@ -138,7 +139,7 @@ module _ (config : Config) (before after : List Entry) (left left' taken : Optio
   past_limit ClockFault mid taken' run closes = absurd (omega (arith, closes.0))
   past_limit (Malformed at) mid taken' run closes = absurd (not_due (malformed_line at) 8 mid taken' 10 closes (omega arith) (omega arith) (omega arith))
   past_limit InputLimit mid taken' run closes = (run.read, run.source, run.ends.0)
-  past_limit (Stopped stop) mid taken' run closes = absurd (omega (arith, closes.0))
+  past_limit (Stopped Memory) mid taken' run closes = absurd (omega (arith, closes.0))
 
   pub status_ten : (taken' : Option (List ℕ)) (status : ℕ) → status ≡ 10 → ScriptOutcome config before after left left' taken taken' status
       → (read : List ℕ) × Consumes left left' read × (length read ≡ input_limit + 1)
@@ -172,15 +173,15 @@ module _ (config : Config) (before after : List Entry) (frames : List Frame) (le
   complete_by ReadFault mid taken' status run closes three four = absurd (three closes.0)
   complete_by WriteFault mid taken' status run closes three four = absurd (four closes.0)
   complete_by ClockFault mid taken' status run closes three four = absurd run.ends
-  complete_by (Stopped stop) mid taken' status run closes three four = inr closes.0
+  complete_by (Stopped Memory) mid taken' status run closes three four = inr closes.0
   complete_by InputLimit mid taken' status run closes three four =
       let front = front_of (script_text frames) left' run.read run.source in
       absurd (omega (arith, within, run.ends.0, ap length front.is, length-append run.read front.rest))
   complete_by (Malformed at) mid taken' status run (inl due) three four =
       let front = front_of (script_text frames) left' run.read run.source in
       absurd (not_a_script frames run.frames run.rest front.rest left' each run.script.each (front.is ∙ ap (λ (l : List ℕ). l ++ front.rest) run.script.whole) front.left_is run.ends.0 run.ends.1 run.ends.4)
-  complete_by (Malformed at) mid taken' status run (inr (inl is, part)) three four = absurd (four is)
-  complete_by (Malformed at) mid taken' status run (inr (inr is, part)) three four = inr is
+  complete_by (Malformed at) mid taken' status run (inr (inl is)) three four = absurd (four is.0)
+  complete_by (Malformed at) mid taken' status run (inr (inr is)) three four = inr is.0
 
   pub complete : (left taken' : Option (List ℕ)) (status : ℕ) → left ≡ Some (script_text frames) → ScriptOutcome config before after left left' taken taken' status
       → status ≢ 3 → status ≢ 4 → (status ≡ 0) ⊎ (status ≡ 7)

@@ -9,13 +9,14 @@ use Rattle.cel_lines.specs.Lines.{AreLines, LinesBegin, IsTooLong}
 use Rattle.cel_lines.specs.Run.{LinesRun}
 use Rattle.cel_lines.specs.declared.end.LinesEnd.{LinesEnd}
 use Rattle.cel_lines.specs.declared.end.LinesEnd.TheVariants as lines
-use Rattle.links.specs.declared.config.Config.{Config}
-use Rattle.links.specs.Configuration.{IsConfiguration, config_limit}
+use Rattle.service_config.specs.declared.config.Config.{Config}
+use Rattle.service_config.specs.Configuration.{IsConfiguration, config_limit}
 use Rattle.links.specs.declared.entry.Entry.{Entry}
 use Rattle.sts_core.specs.Runs.{replies_of}
 use Rattle.sts_serve.specs.Frames.{IsFrame, script_text, NoFrame, NeverFrame, reply_frames, answer}
 use Rattle.sts_serve.specs.Served.{ScriptRun}
 use Rattle.sts_serve.specs.declared.frame.Frame.{Frame}
+use Rattle.sts_core.specs.declared.sts.Stop.TheVariants.{Memory}
 use Rattle.sts_serve.specs.declared.served.Served.{Served}
 use Rattle.sts_serve.specs.declared.served.Served.TheVariants.{Done, ReadFault, WriteFault, ClockFault, Malformed, InputLimit, Stopped}
 use Rattle.wif_tool.specs.Command.{command}
@@ -54,18 +55,19 @@ StopsBefore status = (status ≡ 1) ⊎ ((status ≡ 3) ⊎ (status ≡ 7))
 abbrev pub malformed_line : ℕ → List ℕ
 malformed_line at = codes "fault 8 at " ++ (decimal at ++ (10 ∷ []))
 
--- The line is due: it is written at this status, or a proper part of it where writing fails or memory is wanting.
+-- The line is due: it is written at this status, a proper part of it where writing fails, and nothing of it for want of memory.
 abbrev pub LineDue : List ℕ → ℕ → Option (List ℕ) → Option (List ℕ) → ℕ → Type 0
 LineDue line due taken taken' status =
     ((status ≡ due) × Appends taken taken' line)
-    ⊎ (((status ≡ 4) ⊎ (status ≡ 7)) × ((part : List ℕ) × IsProperPart part line × Appends taken taken' part))
+    ⊎ (((status ≡ 4) × ((part : List ℕ) × IsProperPart part line × Appends taken taken' part))
+    ⊎ ((status ≡ 7) × (taken' ≡ taken)))
 
 -- the status of each end, and what follows the replies
 abbrev pub Closes : Served → Option (List ℕ) → Option (List ℕ) → ℕ → Type 0
 Closes Done taken taken' status = (status ≡ 0) × (taken' ≡ taken)
 Closes ReadFault taken taken' status = (status ≡ 3) × (taken' ≡ taken)
 Closes WriteFault taken taken' status = (status ≡ 4) × (taken' ≡ taken)
-Closes (Stopped stop) taken taken' status = (status ≡ 7) × (taken' ≡ taken)
+Closes (Stopped Memory) taken taken' status = (status ≡ 7) × (taken' ≡ taken)
 Closes (Malformed at) taken taken' status = LineDue (malformed_line at) 8 taken taken' status
 Closes ClockFault taken taken' status = (status ≡ 9) × (taken' ≡ taken)
 Closes InputLimit taken taken' status = (status ≡ 10) × (taken' ≡ taken)

@@ -1,13 +1,13 @@
 ghost use Rattle.std.specs.Prelude.{◌≡◌, ◌≢◌, ◌≤◌, ◌⊎◌, [], ℕ, List, Some};
 ghost use Rattle.wif_base.specs.Causes.{Rose};
 ghost use Rattle.links.specs.declared.entry.Entry.{Entry};
-ghost use Rattle.links.specs.State.{start_of};
-ghost use Rattle.wif_tool.specs.Setup.{config_of};
+ghost use Rattle.service_config.specs.declared.config.Config.{Config};
+ghost use Rattle.sts_core.specs.State.{IsSetUp};
 ghost use Rattle.wif_tool.specs.Status.{Configured, NoConfiguration, NotConfigured, StopsBefore, ScriptOutcome, LineDue, malformed_line};
 
-use crate::setup::{Setup, SetupEnd, read_setup};
+use crate::setup::{SetupEnd, read_setup};
 use std::alloc::Global;
-use sts_core::Sts;
+use sts_core::{Setup, Sts};
 use sts_serve::{Served, run_script};
 use wif_base::{Disk, Failed, Sink, Source, write_text};
 
@@ -46,14 +46,14 @@ fn run_over<I: Source, O: Sink, D: Disk>(
     output: &mut O,
     disk: &mut D,
 ) -> u8
-    requires { setup.state.content ≡ start_of (config_of setup) }
-    ensures outcome { (after : List Entry) × ScriptOutcome (config_of setup) [] after (I.left input.old) (I.left input.new) (O.taken output.old) (O.taken output.new) result }
+    ensures outcome { (config : Config) → IsSetUp setup config
+        → (after : List Entry) × ScriptOutcome config [] after (I.left input.old) (I.left input.new) (O.taken output.old) (O.taken output.new) result }
     ensures read_fault { result ≡ 3 → Rose (I.faults input.old) (I.faults input.new) }
     ensures write_fault { result ≡ 4 → Rose (O.faults output.old) (O.faults output.new) }
     ensures clock_fault { result ≢ 9 }
     ensures disk { disk.new ≡ disk.old }
 {
-    let mut sts = Sts::start(&mut *disk, setup.admin, setup.gate, setup.state);
+    let mut sts = Sts::resume(&mut *disk, setup);
     let end = run_script(alloc, &mut sts, input, output);
     // A disk that is lent is known again only once it is given back.
     let _disk = sts.close();

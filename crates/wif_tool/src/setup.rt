@@ -1,12 +1,13 @@
 ghost use Rattle.std.specs.Prelude.{◌≡◌, ◌≤◌, IfOk, IsErrOf, length, vec_len, ◌<◌, ◌-◌};
 ghost use Rattle.wif_base.specs.Causes.{Rose};
-ghost use Rattle.links.specs.State.{start_of};
-ghost use Rattle.wif_tool.specs.Setup.{config_of};
+ghost use Rattle.service_config.specs.declared.config.Config.{Config as Configuration};
+ghost use Rattle.service_config.specs.Formed.{IsFormedConfig};
+ghost use Rattle.sts_core.specs.State.{IsSetUp};
 ghost use Rattle.wif_tool.specs.Status.{ConfigRead, Configured, NotConfigured};
 
-use base_types::Text;
-use links::{Config, ConfigError, State, read_service_config};
+use service_config::{Config, ConfigError, read_service_config};
 use std::alloc::{AllocError, Global};
+use sts_core::{Setup, setup};
 use wif_base::{Failed, Source};
 
 const CONFIG_LIMIT: usize = 65536;
@@ -19,42 +20,25 @@ pub(crate) enum SetupEnd {
     Memory,
 }
 
-/// What a configuration sets up: the bearers of commands and of checks and introspections, and the state before the
-/// first entry.
-#[derive(Drop)]
-pub(crate) struct Setup {
-    pub(crate) admin: Text,
-    pub(crate) gate: Text,
-    pub(crate) state: State,
-}
-
-/// Reads the configuration, and makes its state.
-pub(crate) fn read_setup<G: Source>(alloc: Global, config: &mut G) -> Result<Setup, SetupEnd>
-    ensures found { IfOk result (λ setup. Configured (G.left config.old) (G.left config.new) (config_of setup)) }
-    ensures fresh { IfOk result (λ setup. setup.state.content ≡ start_of (config_of setup)) }
-    ensures form { IsErrOf result SetupEnd.Form → NotConfigured (G.left config.old) (G.left config.new) }
-    ensures failed { IsErrOf result SetupEnd.Failed → Rose (G.faults config.old) (G.faults config.new) }
-    ensures count { G.faults config.old ≤ G.faults config.new }
+/// Reads the configuration, and sets it up.
+pub(crate) fn read_setup<G: Source>(alloc: Global, source: &mut G) -> Result<Setup, SetupEnd>
+    ensures found { IfOk result (λ found. (config : Configuration) × Configured (G.left source.old) (G.left source.new) config × IsSetUp found config) }
+    ensures form { IsErrOf result SetupEnd.Form → NotConfigured (G.left source.old) (G.left source.new) }
+    ensures failed { IsErrOf result SetupEnd.Failed → Rose (G.faults source.old) (G.faults source.new) }
+    ensures count { G.faults source.old ≤ G.faults source.new }
 {
-    match set_up(alloc, read_config(alloc, config)?) {
-        Ok(setup) => Ok(setup),
+    let config = read_config(alloc, source)?;
+    let found = setup(alloc, &config);
+    drop(config);
+    match found {
+        Ok(found) => Ok(found),
         Err(AllocError) => Err(SetupEnd::Memory),
     }
 }
 
-fn set_up(alloc: Global, config: Config) -> Result<Setup, AllocError>
-    ensures config { IfOk result (λ setup. config_of setup ≡ config) }
-    ensures fresh { IfOk result (λ setup. setup.state.content ≡ start_of config) }
-{
-    Ok(Setup {
-        admin: config.admin,
-        gate: config.gate,
-        state: State::new(alloc, config.issuer, config.key, config.start)?,
-    })
-}
-
 fn read_config<G: Source>(alloc: Global, config: &mut G) -> Result<Config, SetupEnd>
     ensures found { IfOk result (Configured (G.left config.old) (G.left config.new)) }
+    ensures formed { IfOk result IsFormedConfig }
     ensures form { IsErrOf result SetupEnd.Form → NotConfigured (G.left config.old) (G.left config.new) }
     ensures failed { IsErrOf result SetupEnd.Failed → Rose (G.faults config.old) (G.faults config.new) }
     ensures count { G.faults config.old ≤ G.faults config.new }

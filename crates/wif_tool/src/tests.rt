@@ -1,9 +1,7 @@
-ghost use Rattle.std.specs.Prelude.{None, ◌≡◌};
-
 use crate::sts_run;
 use std::alloc::{AllocError, Global};
 use std::test::Fail;
-use wif_base::{Failed, MemClock, MemDisk, MemSink, MemSource, Sink, Source};
+use wif_base::{DripSource, MemClock, MemDisk, MemSink, MemSource, Source};
 
 const CONFIG: &[u8] =
     b"{\"issuer\":\"https://sts.example\",\"key\":\"U1NTU1NTU1NTU1NTU1NTU1NTU1NTU1NTU1NTU1NTU1M\",\"admin\":\"admin-secret-000001\",\"gate\":\"gate-secret-0000001\"}";
@@ -11,32 +9,6 @@ const CONFIG: &[u8] =
 const NOT_FOUND: &str = "404 46\n{\"error\":\"not_found\",\"error_description\":\"H4\"}\n";
 
 const INACTIVE: &str = "200 16\n{\"active\":false}\n";
-
-// A source that gives one byte at a time.
-#[derive(Drop)]
-struct Drip {
-    inner: MemSource,
-    faults: u64,
-}
-
-impl Source for Drip {
-    ghost left = { λ _. None };
-
-    ghost faults = { λ s. s.faults };
-
-    ghost lender = { λ _. 0 };
-
-    fn read(&mut self, into: &mut [u8]) -> Result<usize, Failed> {
-        let end = into.len().min(1);
-        match self.inner.read(&mut into[..end]) {
-            Ok(count) => Ok(count),
-            Err(Failed) => {
-                self.faults = self.faults.saturating_add(1);
-                Err(Failed)
-            }
-        }
-    }
-}
 
 fn words_of(alloc: Global, line: &str) -> Result<Vec<String>, AllocError> {
     let mut words = Vec::new(alloc);
@@ -122,68 +94,6 @@ fn around(
 }
 
 #[test]
-fn what_is_no_frame_is_told_by_its_place(rt: HostRuntime) -> Result<(), Fail> {
-    let alloc = rt.alloc();
-    let cases: [(&str, u8, &str); 25] = [
-        ("", 0, ""),
-        ("/v1/none - 0 0\n\n", 0, "H"),
-        ("/v1/check - 0\n", 8, "fault 8 at 0\n"),
-        ("/v1/none - 0 0\n\n/v1/check - 0\n", 8, "Hfault 8 at 16\n"),
-        (
-            "/v1/none - 0 0\n\n/v1/none - 0 0\n\n\n",
-            8,
-            "HHfault 8 at 32\n",
-        ),
-        ("/v1/none - 0 0\n", 8, "fault 8 at 0\n"),
-        ("/v1/none - 0 1\n\n", 8, "fault 8 at 0\n"),
-        ("/v1/none - 0 1\n\n\n", 0, "H"),
-        ("/v1/none - 0 0\nx", 8, "fault 8 at 0\n"),
-        (" /v1/none - 0 0\n\n", 8, "fault 8 at 0\n"),
-        ("/v1/none  - 0 0\n\n", 8, "fault 8 at 0\n"),
-        ("/v1/none -\t0 0\n\n", 8, "fault 8 at 0\n"),
-        ("/v1/n\u{e9}e - 0 0\n\n", 8, "fault 8 at 0\n"),
-        ("/v1/none - 00 0\n\n", 8, "fault 8 at 0\n"),
-        ("/v1/none - 01 0\n\n", 8, "fault 8 at 0\n"),
-        ("/v1/none - 0 00\n\n", 8, "fault 8 at 0\n"),
-        ("/v1/none - +1 0\n\n", 8, "fault 8 at 0\n"),
-        ("/v1/none - -1 0\n\n", 8, "fault 8 at 0\n"),
-        ("/v1/none - 1.0 0\n\n", 8, "fault 8 at 0\n"),
-        ("/v1/none - 200000000000 0\n\n", 0, "H"),
-        ("/v1/none - 200000000001 0\n\n", 8, "fault 8 at 0\n"),
-        ("/v1/none - 1000000000000 0\n\n", 8, "fault 8 at 0\n"),
-        ("/v1/none - 0 65537\n", 8, "fault 8 at 0\n"),
-        ("/v1/none - 0 99999999999999999999\n", 8, "fault 8 at 0\n"),
-        ("/v1/none - 0 0\r\n\n", 8, "fault 8 at 0\n"),
-    ];
-    for (input, status, output) in cases {
-        let ran = run(alloc, input.as_bytes(), NEVER)?;
-        let wanted = output.replace(alloc, "H", NOT_FOUND)?;
-        assert_eq!(rt; ran.status, status, "{input}");
-        assert_eq!(rt; ran.output.as_str(), wanted.as_str(), "{input}");
-    }
-    Ok(())
-}
-
-#[test]
-fn words_of_a_frame_have_limits(rt: HostRuntime) -> Result<(), Fail> {
-    let alloc = rt.alloc();
-    let cases: [(&str, usize, &str, u8); 6] = [
-        ("/", 2047, " - 0 0\n\n", 0),
-        ("/", 2048, " - 0 0\n\n", 8),
-        ("/v1/none ", 8192, " 0 0\n\n", 0),
-        ("/v1/none ", 8193, " 0 0\n\n", 8),
-        ("/v1/none - 0 65536\n", 65536, "\n", 0),
-        ("/v1/none - 0 65536\n", 65535, "\n", 8),
-    ];
-    for (before, count, after, status) in cases {
-        let input = around(alloc, before, b'~', count, after)?;
-        let ran = run(alloc, &input, NEVER)?;
-        assert_eq!(rt; ran.status, status, "{before} {count}");
-    }
-    Ok(())
-}
-
-#[test]
 fn a_script_may_be_cut_anywhere(rt: HostRuntime) -> Result<(), Fail> {
     let alloc = rt.alloc();
     let script = b"/v1/none - 7 3\nabc\n/v1/introspect gate-secret-0000001 7 7\ntoken=a\n";
@@ -199,10 +109,7 @@ fn a_script_may_be_cut_anywhere(rt: HostRuntime) -> Result<(), Fail> {
             _ => format!(in alloc; "{NOT_FOUND}fault 8 at 19\n")?,
         };
         assert_eq!(rt; ran.output.as_str(), wanted.as_str(), "{length}");
-        let mut drip = Drip {
-            inner: MemSource::new(front.to_vec(alloc)?, Vec::new(alloc)),
-            faults: 0,
-        };
+        let mut drip = DripSource::new(MemSource::new(front.to_vec(alloc)?, Vec::new(alloc)));
         let dripped = run_with(alloc, "script c j", CONFIG, &mut drip, NEVER)?;
         assert_eq!(rt; dripped.status, ran.status, "{length}");
         assert_eq!(rt; dripped.output.as_str(), wanted.as_str(), "{length}");

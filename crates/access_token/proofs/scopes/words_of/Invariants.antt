@@ -1,6 +1,6 @@
 use Rattle.std.proofs.Common.{◌≡◌, ◌++◌, ◌==◌, length, option_map, IsUtf8}
 use Rattle.std.specs.List.{list_all, slice_split}
-use Rattle.json_text.specs.Forms.{passing}
+use Rattle.base_types.specs.Forms.{passing}
 use Rattle.iam_names.specs.Forms.{is_scope_word}
 use Rattle.access_token.proofs.scopes.words_of.Given as goal
 

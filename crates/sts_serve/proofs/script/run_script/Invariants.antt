@@ -1,14 +1,15 @@
-use Rattle.std.proofs.Common.{◌≡◌, ◌≤◌, ◌+◌, ◌-◌, ◌*◌, length}
+use Rattle.std.proofs.Common.{◌≡◌, ◌≤◌, ◌+◌, ◌-◌, ◌*◌, List, length}
+use Rattle.service_config.specs.declared.config.Config.{Config}
+use Rattle.links.specs.declared.entry.Entry.{Entry}
 use Rattle.wif_base.specs.Carried.{input_limit}
-use Rattle.sts_core.specs.State.{configuration, journal}
+use Rattle.sts_core.specs.State.{Stands}
 use Rattle.sts_serve.proofs.Runs.{SoFar}
 use Rattle.sts_serve.proofs.script.run_script.Given as goal
 
 abbrev pub invariant-frames : goal.invariant-frames
 invariant-frames g l = record {
-  so_far : SoFar (configuration l.fn.sts) (journal l.fn.sts) (journal l.sts) (g.I.Source.left l.fn.input) (g.I.Source.left l.input)
-      (g.O.Sink.taken l.fn.output) (g.O.Sink.taken l.output) l.carry l.used;
-  config : configuration l.sts ≡ configuration l.fn.sts;
+  so_far : (config : Config) (journal : List Entry) → Stands l.fn.sts config journal → (now : List Entry) × Stands l.sts config now
+      × SoFar config journal now (g.I.Source.left l.fn.input) (g.I.Source.left l.input) (g.O.Sink.taken l.fn.output) (g.O.Sink.taken l.output) l.carry l.used;
   disk : l.sts.disk ≡ l.fn.sts.disk;
   within : l.carry.taken ≤ input_limit;
   source : g.I.Source.faults l.fn.input ≤ g.I.Source.faults l.input;

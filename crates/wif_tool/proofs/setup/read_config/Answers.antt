@@ -1,9 +1,9 @@
 use Rattle.std.proofs.Common.{◌≡◌, List, ℕ, ap, subst}
 use Rattle.std.specs.Prelude.{Result, Err}
 use Rattle.wif_tool.specs.Status.{NotConfigured}
-use Rattle.links.specs.Configuration.{IsConfiguration}
-use Rattle.links.specs.declared.config.Config.{Config}
-use Rattle.links.specs.declared.config.ConfigError.{ConfigError}
+use Rattle.service_config.specs.Configuration.{IsConfiguration}
+use Rattle.service_config.specs.declared.config.Config.{Config}
+use Rattle.service_config.specs.declared.config.ConfigError.{ConfigError}
 use Rattle.wif_tool.proofs.setup.read_config.Goals as goal
 
 pub returns-in-Err-Form-clause-form : goal.returns-in-Err-Form-clause-form

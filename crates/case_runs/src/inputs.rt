@@ -1,0 +1,37 @@
+use crate::escapes::unescaped;
+use std::alloc::{AllocError, Global};
+
+/// What a line hands to its call: byte strings behind one another.
+#[derive(Drop)]
+pub(crate) struct Inputs {
+    parts: Vec<Vec<u8>>,
+}
+
+impl Inputs {
+    /// The inputs between the tabs of a text.
+    pub(crate) fn read(alloc: Global, text: &str) -> Result<Self, AllocError> {
+        let mut parts = Vec::new(alloc);
+        for part in text.split('\t') {
+            parts.push(unescaped(alloc, part)?)?;
+        }
+        Ok(Inputs { parts })
+    }
+
+    /// The bytes of an input, and none where it isn't there.
+    pub(crate) fn bytes(&self, at: usize) -> &[u8] {
+        match self.parts.get(at) {
+            Some(part) => part.as_slice(),
+            None => &[],
+        }
+    }
+
+    /// An input that is a text, and else the empty text.
+    pub(crate) fn text(&self, at: usize) -> &str {
+        std::str::from_utf8(self.bytes(at)).unwrap_or("")
+    }
+
+    /// An input that is a number, and else 0.
+    pub(crate) fn number(&self, at: usize) -> u64 {
+        self.text(at).parse::<u64>().unwrap_or(0)
+    }
+}

@@ -1,0 +1,85 @@
+use crate::escapes::escaped;
+use crate::inputs::Inputs;
+use allow_policy::ScopeSet;
+use json_text::read_document;
+use service_config::{Config, ConfigError, read_service_config};
+use service_view::Command;
+use std::alloc::{AllocError, Global};
+use sts_admin::{CommandFault, read_command};
+use sts_core::Sts;
+use sts_serve::run_script;
+use wif_base::{MemDisk, MemSink, MemSource, Route, route_of};
+
+const CONFIG: &[u8] =
+    b"{\"issuer\":\"https://sts.example\",\"key\":\"U1NTU1NTU1NTU1NTU1NTU1NTU1NTU1NTU1NTU1NTU1M\",\"admin\":\"admin-secret-000001\",\"gate\":\"gate-secret-0000001\"}";
+
+fn shown(command: &Command) -> &'static str {
+    match command {
+        Command::Pool { disabled: true, .. } => "put disabled pool",
+        Command::Pool { .. } => "put pool",
+        Command::Account { disabled: true, .. } => "put disabled account",
+        Command::Account { .. } => "put account",
+        Command::Role { .. } => "put role",
+        Command::Scope {
+            permissions: ScopeSet::All,
+            ..
+        } => "put scope of all",
+        Command::Scope { .. } => "put scope",
+        Command::Policy { .. } => "put policy",
+    }
+}
+
+/// `command JSON`: what the command puts, or the member at fault.
+pub(crate) fn command(alloc: Global, inputs: &Inputs) -> Result<String, AllocError> {
+    let Ok(json) = read_document(alloc, inputs.bytes(0)) else {
+        return "no JSON".to_owned(alloc);
+    };
+    match read_command(alloc, &json) {
+        Ok(command) => shown(&command).to_owned(alloc),
+        Err(CommandFault::Kind) => "kind".to_owned(alloc),
+        Err(CommandFault::Field(member)) => member.name().to_owned(alloc),
+        Err(CommandFault::Memory) => Err(AllocError),
+    }
+}
+
+/// `config JSON`: whether it is a configuration.
+pub(crate) fn config(alloc: Global, inputs: &Inputs) -> Result<String, AllocError> {
+    match read_service_config(alloc, inputs.bytes(0)) {
+        Ok(_) => "yes".to_owned(alloc),
+        Err(ConfigError::Form) => "no".to_owned(alloc),
+        Err(ConfigError::Memory) => Err(AllocError),
+    }
+}
+
+/// `route PATH`: the route of a path.
+pub(crate) fn route(alloc: Global, inputs: &Inputs) -> Result<String, AllocError> {
+    match route_of(alloc, inputs.text(0))? {
+        Some(Route::Token) => "token".to_owned(alloc),
+        Some(Route::Introspect) => "introspect".to_owned(alloc),
+        Some(Route::Check) => "check".to_owned(alloc),
+        Some(Route::Admin) => "admin".to_owned(alloc),
+        Some(Route::Generate { account }) => {
+            let account = account.as_str();
+            format!(in alloc; "generate {account}")
+        }
+        None => "none".to_owned(alloc),
+    }
+}
+
+fn service(alloc: Global, config: &Config) -> Result<Sts<MemDisk>, AllocError> {
+    let disk = MemDisk::new(alloc, b"", 0, 0, Vec::new(alloc))?;
+    Sts::open(alloc, disk, config)
+}
+
+/// `script FRAMES`: how the run ends, and its output.
+pub(crate) fn script(alloc: Global, inputs: &Inputs) -> Result<String, AllocError> {
+    let Ok(config) = read_service_config(alloc, CONFIG) else {
+        return "no configuration".to_owned(alloc);
+    };
+    let mut sts = service(alloc, &config)?;
+    let mut input = MemSource::new(inputs.bytes(0).to_vec(alloc)?, Vec::new(alloc));
+    let mut output = MemSink::new(Vec::with_capacity(alloc, 65536)?, Vec::new(alloc));
+    let end = run_script(alloc, &mut sts, &mut input, &mut output);
+    let written = escaped(alloc, output.bytes.as_slice())?;
+    format!(in alloc; "{end:?} {written}")
+}

@@ -1,0 +1,229 @@
+-- The laws of links and their tokens.
+use Rattle.std.proofs.Common.{◌≡◌, ◌<◌, ◌≤◌, ◌^◌, ◌+◌, ℕ, zero, suc, Bool, true, false, not, List, [], ◌∷◌, ◌++◌, length, refl, sym, ◌∙◌, ap, subst, arith, append_assoc, append-nil, Option, None, Some}
+use Rattle.std.specs.Prelude.{Result, Ok, Err, slice_get, if◌then◌else◌, option_map, option_and_then, codes}
+use Rattle.std.specs.Fmt.{decimal}
+use Rattle.std.proofs.lemmas.Fmt.{decimal_injective}
+use Rattle.std.specs.List.{list_all}
+use Rattle.std.specs.Str.{bytes_eq}
+use Rattle.std.proofs.lemmas.Slice.Eq.{bytes_eq-Decides}
+use Rattle.std.proofs.lemmas.Option.{slice_get_within}
+use Rattle.base_types.specs.Rules.{fails_if, first_of}
+use Rattle.base_types.specs.Steps.{◌>>=◌}
+use Rattle.base64.specs.GeneralPurpose.{IsBytes}
+use Rattle.hmac_jws.proofs.Issued.{payload_of-compact}
+use Rattle.hmac_jws.specs.Compact.{compact}
+use Rattle.hmac_jws.specs.Verified.{first_jws_fault, payload_of, MacGood}
+use Rattle.hmac_jws.specs.declared.fault.JwsFault.{JwsFault}
+use Rattle.iam_names.specs.Audience.{audience_text}
+use Rattle.json_text.specs.Document.{document, text_at}
+use Rattle.access_token.proofs.ExactTexts.{IsBytes-payload_text, jti-payload_text}
+use Rattle.access_token.specs.Payload.{payload_text}
+use Rattle.wif_claims.specs.declared.claims.Claims.{Claims}
+use Rattle.wif_claims.specs.declared.claims.ClaimFault.{ClaimFault}
+use Rattle.wif_claims.specs.declared.claims.When.{When}
+use Rattle.wif_claims.specs.declared.claims.When.TheVariants.{Live, Expired as IsExpired, NotYet as IsNotYet}
+use Rattle.wif_claims.specs.Payload.{claims_of}
+use Rattle.wif_claims.specs.Timing.{timing_of}
+use Rattle.service_config.specs.declared.config.Config.{Config}
+use Rattle.service_config.specs.declared.config.StartProvider.{StartProvider}
+use Rattle.service_config.specs.Configuration.{provider_name}
+use Rattle.service_config.specs.Formed.{IsFormedConfig}
+use Rattle.service_view.specs.View.{pool_enabled}
+use Rattle.links.specs.declared.entry.Entry.{Entry}
+use Rattle.links.specs.declared.entry.Entry.TheVariants as entry
+use Rattle.links.specs.declared.entry.Exchange.{Exchange}
+use Rattle.links.specs.declared.fault.RuleCode.{RuleCode}
+use Rattle.links.specs.declared.fault.RuleCode.TheVariants.{E14, E15, E18}
+use Rattle.links.specs.declared.fault.MapFault.TheVariants.{Issuer, Audience as NoAudience}
+use Rattle.links.specs.declared.source.Source.{Source}
+use Rattle.links.specs.Chain.{Link, Chain, chains_of, chain_at}
+use Rattle.links.specs.Facts.{facts_of}
+use Rattle.links.specs.Issued.{issued_link, is_text_of}
+use Rattle.links.specs.Licence.{first_unlicensed, fault_of, Lawful, Licensed}
+use Rattle.links.specs.Shown.{WasShown}
+use Rattle.links.specs.Sources.{accepts, claimed_by, first_admission_fault, opened, opened_by, passed, source_of, source_of_claims, subject_by, subject_claim, timing_fault, who_of_claims}
+use Rattle.links.specs.State.{Content, after, chain, content_of, link_of, named, source_at, start_of, state_after, token_text, with_link}
+use Rattle.links.proofs.Chains.{chain_stays}
+use Rattle.links.proofs.Issuing.{Tells, chain-there, good_at, number_is, some-told}
+use Rattle.links.proofs.GoodLinks.{exact-good}
+use Rattle.links.proofs.Journals.{IsKept, follows, lawful_kept, link_of_chain}
+use Rattle.links.proofs.Replays.{state_after-append}
+use Rattle.links.proofs.Roots.{link_chain}
+
+-- ---- each link has its chain
+
+there : {A : Type 0} (xs : List A) (n : ℕ) → n < length xs → (x : A) × (slice_get xs n ≡ Some x)
+there [] n within = absurd (omega arith)
+there (x ∷ xs) zero within = (x, refl)
+there (x ∷ xs) (suc n) within = there xs n (omega arith)
+
+pub has_chain : (c : Content) (n : ℕ) → n < length c.links → (found : Chain) × (chain c n ≡ Some found)
+has_chain c n within =
+    let at = there c.links n within in
+    (link_chain n at.0, chain-there c n at.0 at.1)
+
+-- ---- the link of a token
+
+tells_itself : (key text payload : List ℕ) (n : ℕ) → n < 2 ^ 32 → IsBytes payload → text ≡ compact key payload
+    → option_and_then (text_at (codes "jti")) (document payload) ≡ Some (decimal n) → Tells key text (Some n)
+tells_itself key text payload n low bytes is jti =
+    λ other m other_bytes other_low other_is other_jti.
+    let same : payload ≡ other = sym (payload_of-compact key payload bytes) ∙ ap payload_of (sym is ∙ other_is) ∙ payload_of-compact key other other_bytes in
+    let numbers : decimal n ≡ decimal m = cc (jti, other_jti, same) in
+    ap (λ (k : ℕ). Some k) (decimal_injective n m (omega arith) (omega arith) numbers)
+
+token_link : (c : Content) (n : ℕ) (link : Link) → IsKept c → length c.links ≤ 2 ^ 32 → slice_get c.links n ≡ Some link
+    → issued_link c (token_text c (link_chain n link)) ≡ Some n
+unfolding token_text
+token_link c n link kept few at =
+    let within : n < length c.links = slice_get_within c.links n link at in
+    let low : n < 2 ^ 32 = omega (arith, within, few) in
+    let facts = facts_of (link_chain n link) in
+    let payload = payload_text c.issuer facts in
+    let text = token_text c (link_chain n link) in
+    let exact = exact-good c.issuer n link low kept.issuer (good_at c.links n link kept.links at) in
+    let jti = jti-payload_text c.issuer facts exact ∙ ap (λ (k : ℕ). Some (decimal k)) (number_is n link) in
+    let tells = tells_itself c.key text payload n low (IsBytes-payload_text c.issuer facts exact) refl jti in
+    let same : is_text_of c text (chain c n) ≡ true = ap (is_text_of c text) (chain-there c n link at) ∙ (bytes_eq-Decides text text).1 refl in
+    some-told c text (Some n) n kept few tells refl same
+
+pub issued_for : (config : Config) (journal : List Entry) (n : ℕ) (found : Chain) → IsFormedConfig config → Lawful config journal → length journal ≤ 2 ^ 32
+    → chain (content_of config journal) n ≡ Some found → issued_link (content_of config journal) (token_text (content_of config journal) found) ≡ Some n
+issued_for config journal n found formed lawful few is =
+    let c = content_of config journal in
+    let at = link_of_chain c n found is in
+    let links : length c.links ≤ 2 ^ 32 = omega (arith, few, (follows (start_of config) journal).few) in
+    subst (λ (k : Chain). issued_link c (token_text c k) ≡ Some n) (sym at.is) (token_link c n at.link (lawful_kept config journal formed lawful) links at.there)
+
+-- ---- entries that follow
+
+links_more : (c : Content) (es : List Entry) → (more : List Link) × ((state_after c es).links ≡ c.links ++ more)
+links_more c [] = ([], sym (append-nil c.links))
+links_more c (e ∷ es) =
+    let rest = links_more (after c e) es in
+    let here = with_more c.links (link_of c e) in
+    (here.0 ++ rest.0, rest.1 ∙ ap (λ (l : List Link). l ++ rest.0) here.1 ∙ append_assoc c.links here.0 rest.0)
+  where
+    with_more : (links : List Link) (link : Option Link) → (more : List Link) × (with_link links link ≡ links ++ more)
+    with_more links None = ([], sym (append-nil links))
+    with_more links (Some link) = (link ∷ [], refl)
+
+pub chain_follows : (config : Config) (journal more : List Entry) (n : ℕ) (found : Chain) → chain (content_of config journal) n ≡ Some found → chain (content_of config (journal ++ more)) n ≡ Some found
+chain_follows config journal more n found is =
+    let c = content_of config journal in
+    let links = links_more c more in
+    let whole : (content_of config (journal ++ more)).links ≡ c.links ++ links.0 = ap (λ (k : Content). k.links) (state_after-append (start_of config) journal more) ∙ links.1 in
+    subst (λ (l : List Link). chain_at (chains_of l) n ≡ Some found) (sym whole) (chain_stays c.links links.0 n found is)
+
+pub token_follows : (config : Config) (journal more : List Entry) (found : Chain) → token_text (content_of config (journal ++ more)) found ≡ token_text (content_of config journal) found
+unfolding token_text
+token_follows config journal more found =
+    let first = follows (start_of config) journal in
+    let all = follows (start_of config) (journal ++ more) in
+    rw (all.key, all.issuer, first.key, first.issuer) refl
+
+-- ---- what was shown
+
+abbrev Passed : StartProvider → Content → Exchange → Type 0
+Passed provider c x = (s : Source) × (source_of provider x.token x.at ≡ Ok s)
+
+-- each step that gave something
+gave : {X Y E : Type 0} (r : Result X E) (next : X → Result Y E) (y : Y) → (r >>= next) ≡ Ok y → (x : X) × (r ≡ Ok x) × (next x ≡ Ok y)
+gave (Ok x) next y is = (x, refl, is)
+gave (Err fault) next y is = absurd (cc is)
+
+passed_rules : {X : Type 0} (fault : Option RuleCode) (next : Result X RuleCode) (x : X) → passed fault next ≡ Ok x → (fault ≡ None) × (next ≡ Ok x)
+passed_rules None next x is = (refl, is)
+passed_rules (Some rule) next x is = absurd (cc is)
+
+not_failing : (b : Bool) (rule : RuleCode) → fails_if (not b) rule ≡ None → b ≡ true
+not_failing true rule is = refl
+not_failing false rule is = absurd (cc is)
+
+first_none : (a b c : Option RuleCode) → first_of (a ∷ b ∷ c ∷ []) ≡ None → (a ≡ None) × (b ≡ None) × (c ≡ None)
+first_none None None None is = (refl, refl, refl)
+first_none (Some r) b c is = absurd (cc is)
+first_none None (Some r) c is = absurd (cc is)
+first_none None None (Some r) is = absurd (cc is)
+
+timed : (w : When) → timing_fault w ≡ None → w ≡ Live
+timed Live is = refl
+timed IsExpired is = absurd (cc is)
+timed IsNotYet is = absurd (cc is)
+
+opened_well : (fault : Option JwsFault) (payload found : List ℕ) → opened_by fault payload ≡ Ok found → (fault ≡ None) × (payload ≡ found)
+opened_well None payload found is = (refl, cc is)
+opened_well (Some fault) payload found is = absurd (cc is)
+
+claimed_well : (r : Result Claims ClaimFault) (claims : Claims) → claimed_by r ≡ Ok claims → r ≡ Ok claims
+claimed_well (Ok claims) found is = let same : claims ≡ found = cc is in ap (λ (c : Claims). Ok c) same
+claimed_well (Err fault) found is = absurd (cc is)
+
+-- what the rules of a provider say where they pass
+record Shown (provider : StartProvider) (token : List ℕ) (now : ℕ) : Type 0 where
+  verified : MacGood provider.key token
+  claims : Claims
+  claimed : claims_of (payload_of token) ≡ Ok claims
+  issuer : bytes_eq claims.iss provider.issuer ≡ true
+  audience : accepts provider claims.aud ≡ true
+  live : timing_of claims now ≡ Live
+
+shown_by : (provider : StartProvider) (token : List ℕ) (now : ℕ) (s : Source) → source_of provider token now ≡ Ok s → Shown provider token now
+unfolding source_of source_of_claims first_admission_fault
+shown_by provider token now s is =
+    let open = gave (opened provider.key token) _ s is in
+    let good = opened_well (first_jws_fault provider.key token) (payload_of token) open.0 open.1 in
+    let claimed = gave (claimed_by (claims_of open.0)) _ s open.2 in
+    let claims = claimed.0 in
+    let who = gave (who_of_claims provider claims now) _ s claimed.2 in
+    let rules = passed_rules (first_admission_fault provider claims now) _ who.0 who.1 in
+    let each = first_none (fails_if (not (bytes_eq claims.iss provider.issuer)) (E18 Issuer)) (fails_if (not (accepts provider claims.aud)) (E18 NoAudience)) (timing_fault (timing_of claims now)) rules.0 in
+    record {
+      verified = good.0;
+      claims = claims;
+      claimed = ap claims_of good.1 ∙ claimed_well (claims_of open.0) claims claimed.1;
+      issuer = not_failing (bytes_eq claims.iss provider.issuer) (E18 Issuer) each.0;
+      audience = not_failing (accepts provider claims.aud) (E18 NoAudience) each.1;
+      live = timed (timing_of claims now) each.2;
+    }
+
+shown_under : (c : Content) (x : Exchange) (provider : StartProvider) (s : Source) → c.start ≡ Some provider
+    → bytes_eq (audience_text (provider_name provider)) (audience_text x.provider) ≡ true
+    → passed (fails_if (not (pool_enabled c.view provider.pool)) E15) (source_of provider x.token x.at) ≡ Ok s → WasShown c x
+shown_under c x provider s start named is =
+    let rules = passed_rules (fails_if (not (pool_enabled c.view provider.pool)) E15) (source_of provider x.token x.at) s is in
+    let shown = shown_by provider x.token x.at s rules.1 in
+    record {
+      provider = provider;
+      there = start;
+      named = named;
+      enabled = not_failing (pool_enabled c.view provider.pool) E15 rules.0;
+      verified = shown.verified;
+      claims = shown.claims;
+      claimed = shown.claimed;
+      issuer = shown.issuer;
+      audience = shown.audience;
+      live = shown.live;
+    }
+
+by_same : (c : Content) (x : Exchange) (provider : StartProvider) (same : Bool) (s : Source) → c.start ≡ Some provider
+    → bytes_eq (audience_text (provider_name provider)) (audience_text x.provider) ≡ same
+    → ((if same then Ok provider else Err E14) >>= (λ p. passed (fails_if (not (pool_enabled c.view p.pool)) E15) (source_of p x.token x.at))) ≡ Ok s → WasShown c x
+by_same c x provider true s start named is = shown_under c x provider s start named is
+by_same c x provider false s start named is = absurd (cc is)
+
+by_start : (c : Content) (x : Exchange) (start : Option StartProvider) (s : Source) → c.start ≡ start
+    → (named start x.provider >>= (λ p. passed (fails_if (not (pool_enabled c.view p.pool)) E15) (source_of p x.token x.at))) ≡ Ok s → WasShown c x
+by_start c x None s start is = absurd (cc is)
+by_start c x (Some provider) s start is = by_same c x provider (bytes_eq (audience_text (provider_name provider)) (audience_text x.provider)) s start refl is
+
+no_fault : (r : Result Source RuleCode) → fault_of r ≡ None → (s : Source) × (r ≡ Ok s)
+no_fault (Ok s) is = (s, refl)
+no_fault (Err rule) is = absurd (cc is)
+
+pub was_shown : (c : Content) (x : Exchange) → Licensed c (entry.Federated x) → WasShown c x
+unfolding first_unlicensed
+was_shown c x licensed =
+    let rules = first_none _ (fault_of (source_at c x.provider x.token x.at)) _ licensed in
+    let source = no_fault (source_at c x.provider x.token x.at) rules.1 in
+    by_start c x c.start source.0 refl source.1

@@ -1,0 +1,25 @@
+-- An entry with what its recording gives.
+use Rattle.std.specs.Prelude.{ℕ, List, Option, None, Some}
+use Rattle.service_view.specs.Puts.{command_of}
+use Rattle.links.specs.declared.entry.Entry.{Entry}
+use Rattle.links.specs.declared.entry.Entry.TheVariants as entry
+use Rattle.links.specs.declared.recorded.RecordedLink.{RecordedLink}
+use Rattle.links.specs.declared.prepared.Plan.{Plan}
+use Rattle.links.specs.declared.prepared.Plan.TheVariants as plan
+
+-- the entry, and what is held of the link that it records, if it records one, with its token's payload and text
+pub record PreparedEntry : Type 0 where
+  pub entry : Entry
+  pub recorded : Option RecordedLink
+  pub payload : Option (List ℕ)
+  pub token : Option (List ℕ)
+
+-- what a plan shows
+abbrev pub planned : Plan → PreparedEntry
+planned (plan.Put ready) = record { entry = entry.Put (command_of ready); recorded = None; payload = None; token = None }
+planned (plan.Federated exchange issued) = record {
+  entry = entry.Federated exchange;
+  recorded = Some issued.recorded;
+  payload = Some issued.payload;
+  token = Some issued.token;
+}

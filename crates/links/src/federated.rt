@@ -1,0 +1,286 @@
+ghost use Rattle.std.specs.Prelude.{◌≡◌, ◌≤◌, ◌∷◌, [], ℕ, List, IfOk, Ok, not};
+ghost use Rattle.std.specs.List.{list_all};
+ghost use Rattle.std.specs.Str.{bytes_eq};
+ghost use Rattle.base_types.specs.Rules.{fails_if};
+ghost use Rattle.iam_names.specs.Audience.{audience_text};
+ghost use Rattle.access_token.specs.Facts.{name_of};
+ghost use Rattle.service_config.specs.Configuration.{provider_name};
+ghost use Rattle.service_view.specs.View.{cloud_platform as word_from_start, pool_enabled};
+ghost use Rattle.links.specs.declared.fault.RuleCode.TheVariants.{E11, E15};
+ghost use Rattle.links.specs.Chain.{Root};
+ghost use Rattle.links.specs.Entries.{IsExchange};
+ghost use Rattle.links.specs.Facts.{pools_in};
+ghost use Rattle.links.specs.Licence.{knows_word};
+ghost use Rattle.links.specs.Recorded.{recorded};
+ghost use Rattle.links.specs.State.{source_at, named};
+ghost use Rattle.links.proofs.Steps.{Gives, Passes, federated_chain, issued_by, issued_of, recorded_of, signed_by};
+
+use crate::prepared::Issued;
+use crate::source::{Source, name_of, read_source};
+use crate::{ApplyFault, Exchange, RecordedKind, RecordedLink, RuleCode, State};
+use access_token::{Facts, subject_name, write_payload};
+use allow_policy::knows_scope;
+use base_types::{Items, Text};
+use hmac_jws::sign;
+use iam_names::{Audience, PoolName, ScopeWord, Who};
+use service_config::StartProvider;
+use service_view::cloud_platform;
+use std::alloc::{AllocError, Global};
+
+/// How long a token lasts at most, in seconds.
+const MAX_LIFETIME: u64 = 3600;
+
+const TOKEN_LIMIT: usize = 8192;
+
+/// The scope of an exchange that names none.
+pub fn all_permissions(alloc: Global) -> Result<Items<ScopeWord>, AllocError>
+    ensures { IfOk result (λ words. words ≡ word_from_start ∷ []) }
+{
+    let mut words = Items::new(alloc);
+    words.push(cloud_platform(alloc)?)?;
+    Ok(words)
+}
+
+/// The link that an exchange records, with its token, or the first rule that forbids it.
+pub(crate) fn issue(
+    alloc: Global,
+    state: &State,
+    exchange: &Exchange,
+) -> Result<Issued, ApplyFault>
+    requires { IsExchange exchange.now }
+    ensures { Gives (λ issued. issued) result (issued_of state.now.content exchange.now) }
+{
+    let recorded = link_for(alloc, state, exchange)?;
+    with_token(alloc, state, recorded)
+}
+
+fn with_token(
+    alloc: Global,
+    state: &State,
+    recorded: RecordedLink,
+) -> Result<Issued, ApplyFault>
+    ensures { Gives (λ issued. issued) result (issued_by state.now.content recorded) }
+{
+    match signed(alloc, state, &recorded.facts) {
+        Ok(signed) => Ok(Issued {
+            recorded,
+            payload: signed.payload,
+            token: signed.token,
+        }),
+        Err(fault) => {
+            drop(recorded);
+            Err(fault)
+        }
+    }
+}
+
+// A token's payload and text.
+#[derive(Debug, Drop)]
+pub(crate) struct Signed {
+    pub(crate) payload: Text,
+    pub(crate) token: Text,
+}
+
+fn signed(alloc: Global, state: &State, facts: &Facts) -> Result<Signed, ApplyFault>
+    ensures { Gives (λ signed. signed) result (signed_by state.now.content facts.now) }
+{
+    let payload = write_payload(alloc, state.issuer(), facts)?;
+    let token = sign(alloc, state.key(), payload.as_str().as_bytes())?;
+    if token.len() > TOKEN_LIMIT {
+        return Err(unlicensed(RuleCode::E25));
+    }
+    Ok(Signed {
+        payload,
+        token: Text::new(token),
+    })
+}
+
+fn unlicensed(rule: RuleCode) -> ApplyFault
+    ensures { result ≡ ApplyFault.Unlicensed rule }
+{
+    ApplyFault::Unlicensed { rule }
+}
+
+// The link that an exchange would record.
+fn link_for(
+    alloc: Global,
+    state: &State,
+    exchange: &Exchange,
+) -> Result<RecordedLink, ApplyFault>
+    requires { IsExchange exchange.now }
+    ensures { Gives (λ link. link) result (recorded_of state.now.content exchange.now) }
+{
+    check_words(state, exchange.scope.as_slice())?;
+    let source = source_in(
+        alloc,
+        state,
+        &exchange.provider,
+        exchange.token.as_str(),
+        exchange.at,
+    )?;
+    link_from(alloc, state, exchange, source)
+}
+
+fn link_from(
+    alloc: Global,
+    state: &State,
+    exchange: &Exchange,
+    source: Source,
+) -> Result<RecordedLink, ApplyFault>
+    requires { IsExchange exchange.now }
+    ensures { Gives (λ link. link) result (Ok (recorded (federated_chain state.now.content exchange.now source))) }
+{
+    match shown(alloc, &source.who, exchange.scope.as_slice()) {
+        Ok(shown) => Ok(recorded_link(
+            alloc,
+            state.link_count(),
+            exchange.at,
+            shown,
+            source,
+        )),
+        Err(AllocError) => {
+            drop(source);
+            Err(ApplyFault::Memory)
+        }
+    }
+}
+
+// What a link's facts repeat of its principal and its scope.
+#[derive(Debug, Drop)]
+struct Shown {
+    sub: Text,
+    pools: Items<PoolName>,
+    scopes: Items<Items<ScopeWord>>,
+}
+
+fn shown(alloc: Global, who: &Who, words: &[ScopeWord]) -> Result<Shown, AllocError>
+    ensures { IfOk result (λ shown. shown ≡ record { sub = name_of who.now; pools = pools_in who.now; scopes = words.now ∷ [] }) }
+{
+    let sub = subject_name(alloc, who)?;
+    let pools = pools_of(alloc, who)?;
+    let scopes = scopes_of(alloc, words)?;
+    Ok(Shown { sub, pools, scopes })
+}
+
+fn pools_of(alloc: Global, who: &Who) -> Result<Items<PoolName>, AllocError>
+    ensures { IfOk result (λ pools. pools ≡ pools_in who.now) }
+{
+    let mut pools = Items::new(alloc);
+    if let Who::Outside { pool, .. } = who {
+        pools.push(pool.copy(alloc)?)?;
+    }
+    Ok(pools)
+}
+
+fn scopes_of(alloc: Global, words: &[ScopeWord]) -> Result<Items<Items<ScopeWord>>, AllocError>
+    ensures { IfOk result (λ scopes. scopes ≡ words.now ∷ []) }
+{
+    let mut scopes = Items::new(alloc);
+    scopes.push(copy_words(alloc, words)?)?;
+    Ok(scopes)
+}
+
+fn copy_words(alloc: Global, words: &[ScopeWord]) -> Result<Items<ScopeWord>, AllocError>
+    ensures { IfOk result (λ copy. copy ≡ words.now) }
+{
+    let mut copy = Items::new(alloc);
+    for word in words {
+        copy.push(word.copy(alloc)?)?;
+    }
+    Ok(copy)
+}
+
+#[tactic(auto, unfolding(crate::specs::Facts::facts_of))]
+fn recorded_link(
+    alloc: Global,
+    number: u32,
+    at: u64,
+    shown: Shown,
+    source: Source,
+) -> RecordedLink
+    requires moment { at ≤ 200_000_000_000 }
+    requires sub { shown.sub ≡ name_of source.who }
+    requires pools { shown.pools ≡ pools_in source.who }
+    ensures { (words : List (List ℕ)) → shown.scopes ≡ words ∷ [] → result ≡ recorded (Root (record { number = number; at = at; words = words }) source) }
+{
+    RecordedLink {
+        kind: RecordedKind::Federated { exp: source.exp },
+        facts: Facts {
+            number,
+            sub: shown.sub,
+            iat: at,
+            exp: source.exp.min(at.saturating_add(MAX_LIFETIME)),
+            act: Items::new(alloc),
+            may_act: source.may_act,
+            who: source.who,
+            pools: shown.pools,
+            accounts: Items::new(alloc),
+            scopes: shown.scopes,
+        },
+    }
+}
+
+fn check_words(state: &State, words: &[ScopeWord]) -> Result<(), ApplyFault>
+    ensures { Passes result (fails_if (not (list_all (knows_word state.now.content) words.now)) E11) }
+{
+    if knows_words(state, words) {
+        return Ok(());
+    }
+    Err(unlicensed(RuleCode::E11))
+}
+
+fn knows_words(state: &State, words: &[ScopeWord]) -> bool
+    ensures { result ≡ list_all (knows_word state.now.content) words.now }
+{
+    let policies = &state.view().policies;
+    words
+        .iter()
+        .all(|word| knows_scope(policies, word.as_str()))
+}
+
+fn source_in(
+    alloc: Global,
+    state: &State,
+    provider: &Audience,
+    token: &str,
+    now: u64,
+) -> Result<Source, ApplyFault>
+    ensures { Gives (λ source. source) result (source_at state.now.content provider.now token.now now) }
+{
+    let provider = provider_named(alloc, state, provider)?;
+    check_pool(state, provider)?;
+    read_source(alloc, provider, token, now)
+}
+
+fn check_pool(state: &State, provider: &StartProvider) -> Result<(), ApplyFault>
+    ensures { Passes result (fails_if (not (pool_enabled state.now.content.view provider.now.pool)) E15) }
+{
+    if state.view().is_pool_enabled(&provider.pool) {
+        return Ok(());
+    }
+    Err(unlicensed(RuleCode::E15))
+}
+
+fn provider_named<'a>(
+    alloc: Global,
+    state: &'a State,
+    name: &Audience,
+) -> Result<&'a StartProvider, ApplyFault>
+    ensures { Gives (λ provider. provider.now) result (named state.now.content.start name.now) }
+{
+    let Some(provider) = state.start_provider() else {
+        return Err(unlicensed(RuleCode::E14));
+    };
+    if has_name(alloc, provider, name)? {
+        return Ok(provider);
+    }
+    Err(unlicensed(RuleCode::E14))
+}
+
+fn has_name(alloc: Global, provider: &StartProvider, name: &Audience) -> Result<bool, AllocError>
+    ensures { IfOk result (λ same. same ≡ bytes_eq (audience_text (provider_name provider.now)) (audience_text name.now)) }
+{
+    let own = name_of(alloc, provider)?;
+    let other = name.print(alloc)?;
+    Ok(own.as_str() == other.as_str())
+}

@@ -1,2 +1,0 @@
-pub mod Eachs
-pub mod ShortArrays

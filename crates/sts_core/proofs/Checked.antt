@@ -1,0 +1,204 @@
+-- The laws of checks, and of the journal that each step leaves.
+use Rattle.std.proofs.Common.{◌≡◌, ℕ, ◌≤◌, ◌^◌, ◌++◌, ◌∷◌, [], List, Bool, true, false, length, refl, sym, ap, ◌∙◌, subst}
+use Rattle.std.specs.Prelude.{◌↔◌, ⊤, ⊥, nat_lt, codes, IfSome, option_map, Option, None, Some, Result, Ok, Err, option_and_then, if◌then◌else◌}
+use Rattle.base_types.specs.Rules.{first_failing}
+use Rattle.serde_json.specs.Data.{Data}
+use Rattle.hmac_jws.specs.Verified.{first_jws_fault, payload_of, MacGood}
+use Rattle.hmac_jws.specs.declared.fault.JwsFault.{JwsFault}
+use Rattle.service_config.specs.declared.config.Config.{Config}
+use Rattle.service_config.specs.Formed.{IsFormedConfig}
+use Rattle.service_config.specs.declared.config.StartProvider.{StartProvider}
+use Rattle.service_view.specs.View.{View, pool_enabled, account_enabled}
+use Rattle.service_view.specs.declared.command.Command.{Command}
+use Rattle.sts_admin.specs.declared.command.CommandFault.{CommandFault}
+use Rattle.sts_admin.specs.Commands.{command_of}
+use Rattle.wif_base.specs.declared.request.Request.{Request}
+use Rattle.wif_base.specs.declared.route.Route.{Route}
+use Rattle.wif_base.specs.declared.route.Route.TheVariants.{Token, Generate, Introspect, Check, Admin}
+use Rattle.grant_gate.specs.Carried.{carried_of, carried_after, gate_fault}
+use Rattle.grant_gate.specs.Decision.{carried_decision, decided, denied_at, denied_unless, fault_decision, place_failing, words_allow}
+use Rattle.grant_gate.specs.declared.decision.Decision.{Decision}
+use Rattle.grant_gate.specs.declared.decision.Decision.TheVariants.{Admit, Deny}
+use Rattle.grant_gate.specs.declared.decision.GateRule.{GateRule}
+use Rattle.grant_gate.specs.declared.decision.GateRule.TheVariants.{G4, G5, G6, G7, G9}
+use Rattle.grant_gate.specs.declared.fault.GateFault.{GateFault}
+use Rattle.grant_gate.specs.declared.fault.GateFault.TheVariants as gate
+use Rattle.links.specs.declared.entry.Entry.{Entry}
+use Rattle.links.specs.declared.entry.Entry.TheVariants as entry
+use Rattle.links.specs.declared.fault.RuleCode.{RuleCode}
+use Rattle.links.specs.Authority.{admits}
+use Rattle.links.specs.Chain.{Chain}
+use Rattle.links.specs.Entries.{IsEntry}
+use Rattle.links.specs.Facts.{exp_of, pools_of, accounts_of, scopes_of}
+use Rattle.links.specs.Issued.{issued_link}
+use Rattle.links.specs.Licence.{first_unlicensed, Lawful}
+use Rattle.links.specs.State.{Content, chain, content_of, start_of, token_text}
+use Rattle.links.proofs.Laws.{issued_for}
+use Rattle.links.proofs.Replays.{lawful-last, state_after-append}
+use Rattle.sts_core.specs.declared.form.Parameter.{Parameter}
+use Rattle.sts_core.specs.Asked.{asked_entry, asks_for, entry_of}
+use Rattle.sts_core.specs.Forms.{form_of, once}
+use Rattle.sts_core.specs.Machine.{administration, behind, command_in, commanded, commanded_by, exchange, exchanged, is_bearer, no_entry, object_of, ruled, step, step_of, with_entry}
+use Rattle.sts_core.specs.Replies.{not_built, u1}
+use Rattle.sts_core.specs.Unbuilt.{is_unbuilt}
+use Rattle.sts_core.specs.Check.{check_decision, chain_or_carried, issued_chain, first_denial, link_decision}
+
+-- ---- a denial is no admission
+
+IsDenial : Decision → Type 0
+IsDenial Admit = ⊥
+IsDenial (Deny rule place) = ⊤
+
+denial_first : (rule : Option Decision) (rules : List (Option Decision)) (other : Decision) → IfSome rule IsDenial → IsDenial (first_failing rules other) → IsDenial (first_failing (rule ∷ rules) other)
+denial_first None rules other is rest = rest
+denial_first (Some denial) rules other is rest = is
+
+unless_denies : (passes : Bool) (rule : GateRule) → IfSome (denied_unless passes rule) IsDenial
+unfolding IsDenial
+unless_denies true rule = tt
+unless_denies false rule = tt
+
+place_denies : (rule : GateRule) (place : Option ℕ) → IfSome (denied_at rule place) IsDenial
+unfolding IsDenial
+place_denies rule None = tt
+place_denies rule (Some place) = tt
+
+first_denies : (view : View) (found : Chain) (permission : List ℕ) (now : ℕ) → IsDenial (first_denial view found permission now)
+unfolding first_denial IsDenial
+first_denies view found permission now =
+    denial_first _ _ (Deny G9 0) (unless_denies (nat_lt now (exp_of found)) G4)
+    (denial_first _ _ (Deny G9 0) (place_denies G5 (place_failing (pool_enabled view) (pools_of found)))
+    (denial_first _ _ (Deny G9 0) (place_denies G6 (place_failing (account_enabled view) (accounts_of found)))
+    (denial_first _ _ (Deny G9 0) (place_denies G7 (place_failing (words_allow view permission) (scopes_of found))) tt)))
+
+no_admission : (decision : Decision) → IsDenial decision → decision ≡ Admit → ⊥
+unfolding IsDenial
+no_admission Admit is same = is
+no_admission (Deny rule place) is same = cc same
+
+-- ---- a check of an issued token
+
+decided_by : (view : View) (found : Chain) (permission resource : List ℕ) (now : ℕ) (admitted : Bool) → admits view found permission resource now ≡ admitted
+    → (link_decision view found permission resource now ≡ Admit) ↔ (admits view found permission resource now ≡ true)
+unfolding link_decision
+decided_by view found permission resource now true is = (λ h. is, λ h. rw is refl)
+decided_by view found permission resource now false is = (
+  λ h. absurd (no_admission (first_denial view found permission now) (first_denies view found permission now) (subst (λ (b : Bool). (if b then Admit else first_denial view found permission now) ≡ Admit) is h)),
+  λ h. absurd (cc (is, h)),
+)
+
+pub issued_checks : (config : Config) (journal : List Entry) (n : ℕ) (found : Chain) (permission resource : List ℕ) (now : ℕ)
+    → IsFormedConfig config → Lawful config journal → length journal ≤ 2 ^ 32 → chain (content_of config journal) n ≡ Some found
+    → (check_decision (content_of config journal) (token_text (content_of config journal) found) permission resource now ≡ Admit) ↔ (admits (content_of config journal).view found permission resource now ≡ true)
+unfolding check_decision
+issued_checks config journal n found permission resource now formed lawful few there =
+    let c = content_of config journal in
+    let text = token_text c found in
+    let issued : issued_chain c text ≡ Some found = ap (λ (o : Option ℕ). option_and_then (chain c) o) (issued_for config journal n found formed lawful few there) ∙ there in
+    subst (λ (o : Option Chain). (chain_or_carried c text permission resource now o ≡ Admit) ↔ (admits c.view found permission resource now ≡ true)) (sym issued)
+    (decided_by c.view found permission resource now (admits c.view found permission resource now) refl)
+
+-- ---- a check of any other text
+
+fault_denies : (fault : GateFault) → IsDenial (fault_decision fault)
+unfolding IsDenial
+fault_denies gate.Shape = tt
+fault_denies gate.Mac = tt
+fault_denies gate.Claims = tt
+fault_denies gate.Memory = tt
+
+verified_by : (view : View) (key issuer text permission resource : List ℕ) (now : ℕ) (fault : Option JwsFault) → first_jws_fault key text ≡ fault
+    → decided view (carried_after issuer text fault) permission resource now ≡ Admit → MacGood key text
+verified_by view key issuer text permission resource now None is admitted = is
+verified_by view key issuer text permission resource now (Some fault) is admitted =
+    absurd (no_admission (fault_decision (gate_fault fault)) (fault_denies (gate_fault fault)) admitted)
+
+pub other_checks : (config : Config) (journal : List Entry) (text permission resource : List ℕ) (now : ℕ)
+    → issued_link (content_of config journal) text ≡ None → check_decision (content_of config journal) text permission resource now ≡ Admit → MacGood (content_of config journal).key text
+unfolding check_decision carried_decision carried_of
+other_checks config journal text permission resource now none admitted =
+    let c = content_of config journal in
+    let other : issued_chain c text ≡ None = ap (λ (o : Option ℕ). option_and_then (chain c) o) none in
+    verified_by c.view c.key c.issuer text permission resource now (first_jws_fault c.key text) refl
+    (subst (λ (o : Option Chain). chain_or_carried c text permission resource now o ≡ Admit) other admitted)
+
+-- ---- the journal that a step leaves
+
+ruled_lawful : (config : Config) (journal : List Entry) (e : Entry) (rule : Option RuleCode) → first_unlicensed (content_of config journal) e ≡ rule → IsEntry e → Lawful config journal
+    → Lawful config (with_entry journal (ruled (content_of config journal) e rule).entry)
+ruled_lawful config journal e None is form lawful = lawful-last (start_of config) journal e lawful form is
+ruled_lawful config journal e (Some rule) is form lawful = lawful
+
+command_lawful : (config : Config) (journal : List Entry) (command : Command) (rule : Option RuleCode) → first_unlicensed (content_of config journal) (entry.Put command) ≡ rule → Lawful config journal
+    → Lawful config (with_entry journal (commanded_by (content_of config journal) command rule).entry)
+command_lawful config journal command None is lawful = lawful-last (start_of config) journal (entry.Put command) lawful tt is
+command_lawful config journal command (Some rule) is lawful = lawful
+
+commanded_lawful : (config : Config) (journal : List Entry) (read : Result Command CommandFault) → Lawful config journal → Lawful config (with_entry journal (commanded (content_of config journal) read).entry)
+commanded_lawful config journal (Err fault) lawful = lawful
+commanded_lawful config journal (Ok command) lawful = command_lawful config journal command (first_unlicensed (content_of config journal) (entry.Put command)) refl lawful
+
+unbuilt_lawful : (config : Config) (journal : List Entry) (d : Data) (unbuilt : Bool) → Lawful config journal
+    → Lawful config (with_entry journal (if unbuilt then no_entry not_built else commanded (content_of config journal) (command_of d)).entry)
+unbuilt_lawful config journal d true lawful = lawful
+unbuilt_lawful config journal d false lawful = commanded_lawful config journal (command_of d) lawful
+
+object_lawful : (config : Config) (journal : List Entry) (object : Option Data) → Lawful config journal → Lawful config (with_entry journal (command_in (content_of config journal) object).entry)
+object_lawful config journal None lawful = lawful
+object_lawful config journal (Some d) lawful = unbuilt_lawful config journal d (is_unbuilt d) lawful
+
+bearer_lawful : (config : Config) (journal : List Entry) (request : Request) (known : Bool) → Lawful config journal
+    → Lawful config (with_entry journal (if known then command_in (content_of config journal) (object_of request.body) else no_entry u1).entry)
+bearer_lawful config journal request true lawful = object_lawful config journal (object_of request.body) lawful
+bearer_lawful config journal request false lawful = lawful
+
+pub administration_lawful : (config : Config) (journal : List Entry) (secret : List ℕ) (request : Request) → Lawful config journal
+    → Lawful config (with_entry journal (administration secret (content_of config journal) request).entry)
+unfolding administration
+administration_lawful config journal secret request lawful = bearer_lawful config journal request (is_bearer secret request.bearer) lawful
+
+-- what is asked for has its form
+asked_token : (provider : StartProvider) (now : ℕ) (token : Option (List ℕ)) (e : Entry) → now ≤ 200_000_000_000 → option_map (entry_of provider now) token ≡ Some e → IsEntry e
+asked_token provider now None e low is = absurd (cc is)
+asked_token provider now (Some token) e low is =
+    let same : entry_of provider now token ≡ e = cc is in
+    subst IsEntry same (record { moment = low; words = refl })
+
+asked_by : (provider : StartProvider) (form : List Parameter) (now : ℕ) (asks : Bool) (e : Entry) → now ≤ 200_000_000_000
+    → (if asks then option_map (entry_of provider now) (once (codes "subject_token") form) else None) ≡ Some e → IsEntry e
+asked_by provider form now true e low is = asked_token provider now (once (codes "subject_token") form) e low is
+asked_by provider form now false e low is = absurd (cc is)
+
+asked_form : (start : Option StartProvider) (form : List Parameter) (now : ℕ) (e : Entry) → now ≤ 200_000_000_000 → asked_entry start form now ≡ Some e → IsEntry e
+unfolding asked_entry
+asked_form None form now e low is = absurd (cc is)
+asked_form (Some provider) form now e low is = asked_by provider form now (asks_for provider form) e low is
+
+exchanged_lawful : (config : Config) (journal : List Entry) (asked : Option Entry) → ((e : Entry) → asked ≡ Some e → IsEntry e) → Lawful config journal
+    → Lawful config (with_entry journal (exchanged (content_of config journal) asked).entry)
+exchanged_lawful config journal None form lawful = lawful
+exchanged_lawful config journal (Some e) form lawful = ruled_lawful config journal e (first_unlicensed (content_of config journal) e) refl (form e refl) lawful
+
+pub exchange_lawful : (config : Config) (journal : List Entry) (request : Request) (now : ℕ) → now ≤ 200_000_000_000 → Lawful config journal
+    → Lawful config (with_entry journal (exchange (content_of config journal) request now).entry)
+exchange_lawful config journal request now low lawful =
+    let c = content_of config journal in
+    exchanged_lawful config journal (asked_entry c.start (form_of request.body) now) (λ e is. asked_form c.start (form_of request.body) now e low is) lawful
+
+route_lawful : (config : Config) (journal : List Entry) (request : Request) (route : Route) (now : ℕ) → now ≤ 200_000_000_000 → Lawful config journal
+    → Lawful config (with_entry journal (step_of route config (content_of config journal) request now).entry)
+route_lawful config journal request Token now low lawful = exchange_lawful config journal request now low lawful
+route_lawful config journal request (Generate account) now low lawful = lawful
+route_lawful config journal request Introspect now low lawful = lawful
+route_lawful config journal request Check now low lawful = lawful
+route_lawful config journal request Admin now low lawful = administration_lawful config journal config.admin request lawful
+
+pub step_lawful : (config : Config) (journal : List Entry) (request : Request) (now : ℕ) → now ≤ 200_000_000_000 → Lawful config journal
+    → Lawful config (with_entry journal (step config journal request now).entry)
+step_lawful config journal request now low lawful = route_lawful config journal request request.route now low lawful
+
+-- ---- the state that a step leaves
+
+pub behind_is : (config : Config) (journal : List Entry) (added : Option Entry) → behind (content_of config journal) added ≡ content_of config (with_entry journal added)
+behind_is config journal None = refl
+behind_is config journal (Some e) = sym (state_after-append (start_of config) journal (e ∷ []))

@@ -1,0 +1,368 @@
+"""The cases of the stored run, in their order: each line states the reply in short and the request that gets it.
+
+A further case is a further line. Tokens are signed here: `subject(claims)` signs as the provider does, `access(facts)` as the
+service does. `python3 tools/stored_run.py` makes the run again.
+"""
+import json
+
+from model import EVERY, OAUTH, nested
+from signing import AT, HEADER, compact, encoded, exchange_pairs, form, provider_name, signed
+
+ISSUER, ADMIN, GATE = 'https://sts.example', 'admin-secret-000001', 'gate-secret-0000001'
+OWN, OUTSIDE = b'S' * 32, b'P' * 32
+START = {'project': '1234', 'pool': 'ci-pool', 'provider': 'github', 'issuer': 'https://token.actions.githubusercontent.com'}
+PATH = 'iam.googleapis.com/projects/1234/locations/global/workloadIdentityPools/ci-pool'
+NAME = provider_name(START)
+SUBJECT = 'repo:octo/app:ref:refs/heads/main'
+BUCKET = '//storage.googleapis.com/projects/_/buckets/a'
+GET, VIEWER = 'storage.objects.get', 'roles/storage.objectViewer'
+BUILDER, OTHER = 'builder@octo.iam.gserviceaccount.com', 'a@b.iam.gserviceaccount.com'
+GENERATE = '/v1/projects/-/serviceAccounts/'
+CASES = []
+
+
+def add(want, path, bearer, at, body):
+    CASES.append((want, path, bearer, at, body))
+
+
+# What a provider and the service sign.
+
+def claims(**changes):
+    """The claims of an outside token; one that is None is left out."""
+    made = dict({'iss': START['issuer'], 'sub': SUBJECT, 'aud': NAME, 'exp': AT + 900, 'iat': AT}, **changes)
+    return {name: value for name, value in made.items() if value is not None}
+
+
+def subject(payload=None, header=HEADER, key=OUTSIDE):
+    return signed(key, claims() if payload is None else payload, header)
+
+
+def facts(wif=(), **changes):
+    """The facts of link 17's token; one that is None is left out, and `wif` changes what stands in its member."""
+    who = {'attributes': {}, 'groups': [], 'pool': '1234/ci-pool', 'subject': SUBJECT}
+    inner = dict({'accounts': [], 'bounds': [], 'pools': ['1234/ci-pool'], 'scopes': [EVERY], 'who': who}, **dict(wif))
+    made = dict({'exp': AT + 900, 'iat': AT, 'iss': ISSUER, 'jti': '17', 'scope': EVERY, 'sub': f'principal://{PATH}/subject/{SUBJECT}',
+                 'wif': inner}, **changes)
+    return {name: made[name] for name in sorted(made) if made[name] is not None}
+
+
+def access(payload=None, header=HEADER, key=OWN, **changes):
+    return signed(key, facts(**changes) if payload is None else payload, header)
+
+
+def actors(count, text, innermost=None):
+    return nested('may_act', [text] * (count - 1) + [innermost or text])
+
+
+# The requests.
+
+def exchange(want, token=None, at=AT, tail='', **changes):
+    """An exchange of a token; `changes` puts other values, None leaves one out, and `tail` is more of the form's text."""
+    pairs = [(name, changes.get(name, value)) for name, value in exchange_pairs(START, subject() if token is None else token)]
+    add(want, '/v1/token', '-', at, form([pair for pair in pairs if pair[1] is not None]) + tail)
+
+
+def introspect(want, token, at=AT, tail=''):
+    add(want, '/v1/introspect', GATE, at, 'token=' + token + tail)
+
+
+def asks(want, body, bearer=GATE, at=7, path='/v1/introspect'):
+    add(want, path, bearer, at, body)
+
+
+def admin(want, command, bearer=ADMIN, at=AT):
+    add(want, '/v1/admin', bearer, at, command if isinstance(command, (str, bytes)) else compact(command))
+
+
+def check(want, token=None, at=AT + 100, permission=GET, resource=BUCKET, bearer=GATE):
+    asked = {'token': access() if token is None else token, 'permission': permission, 'resource': resource}
+    checks(want, compact(asked), bearer, at)
+
+
+def checks(want, body, bearer=GATE, at=AT + 100):
+    add(want, '/v1/check', bearer, at, body)
+
+
+def grant(want, *members):
+    admin(want, {'kind': 'policy', 'resource': BUCKET, 'bindings': [{'role': VIEWER, 'members': list(members)}]})
+
+
+FULL = claims(aud='https:' + NAME, repository='octo/app', repository_owner='octo')
+FIRST = access(jti='0')
+
+# An exchange, its introspections at the end of its life, and two refusals.
+exchange('issued', subject(FULL))
+introspect('active', FIRST, AT + 899)
+introspect('inactive', FIRST, AT + 900)
+exchange('E16 Base64 2', subject(FULL)[:-2])
+exchange('E25', subject(dict(FULL, may_act=actors(8, 'm' * 1024))))
+
+# Paths without a route.
+for path, bearer, body in [('/v1/none', '-', ''), ('/', '-', ''), ('/v1/introspect/', GATE, 'token=a'), ('/v1/introspectx', GATE, 'token=a'),
+                           ('/V1/introspect', GATE, 'token=a'), ('x/v1/introspect', GATE, 'token=a'), ('/v1/none?/v1/introspect', GATE, 'token=a'),
+                           ('?', '-', ''), (GENERATE + 'a:generateAccessToken/', '-', ''),
+                           ('/v1/projects/1/serviceAccounts/a:generateAccessToken', '-', ''), (GENERATE + 'a?b:generateAccessToken', '-', ''),
+                           (GENERATE, '-', ''), ('/' * 2048, '-', '')]:
+    add('H4', path, bearer, 0, body)
+
+# What isn't built yet, and a request to each route that is refused.
+add('Z1', '/v1/token', '-', AT, 'grant_type=x')
+add('Z1', '/v1/token?a=b', '-', AT, '')
+add('U1', '/v1/check', '-', 0, '')
+add('A2', '/v1/admin', ADMIN, 0, '{}')
+add('Z1', GENERATE + ':generateAccessToken', '-', 0, '')
+add('Z1', GENERATE + 'a/b%40c:generateAccessToken', '-', 0, '')
+add('Z1', GENERATE + 'a:generateAccessToken?x', '-', 0, '')
+
+# The bearer of an introspection, and its form.
+for bearer in ('-', ADMIN, GATE + '1', GATE[:-1], 'G' + GATE[1:], 'v' * 8192, '--'):
+    asks('U1', 'token=a', bearer)
+asks('U1', 'token=%FF', '-')
+asks('Z1', 'token=%FF')
+asks('Z1', 'token=a&colour=%C0')
+asks('Z1', 'tok%FFen=a')
+asks('Z1', 'token=%EF%BF%BD')
+asks('Z1', 'token=\ufffd')
+for body in ('', 'token', 'token=', 'token=a&token=b', 'token=a&token=a', 'Token=a', 'token%3Da', 'token=a&t%6Fken=b'):
+    asks('N2', body)
+for body in ('token=a', 'token=a&token=', 'token=&token=a&colour=red', 't%6Fken=a', '&&token=a+b&'):
+    asks('inactive', body)
+asks('inactive', 'token=a', at=200000000000, path='/v1/introspect?token=b')
+asks('inactive', 'token=' + 'a' * 65530, at=0)
+asks('inactive', 'token=a\n', at=0)
+
+# The subject, the size of the token, and the moments of an outside token.
+exchange('issued', subject(claims(sub='s' * 127)))
+exchange('E19 TooLong google.subject', subject(claims(sub='s' * 128)))
+exchange('E19 Subject', subject(claims(sub=None)))
+exchange('E19 Subject', subject(claims(sub=None) | {'sub': 7}))
+exchange('E19 Subject', subject(claims(sub=None) | {'sub': ''}))
+exchange('issued', subject(claims(sub='caf\u00e9 "x"\t\\')))
+exchange('issued', subject(claims(may_act=actors(6, 'a' * 1024, 'a' * 342))))
+exchange('E25', subject(claims(may_act=actors(6, 'a' * 1024, 'a' * 343))))
+exchange('E18 Expired', subject(claims(exp=AT)))
+exchange('issued', subject(claims(exp=AT + 1)))
+exchange('E18 NotYet', subject(claims(nbf=AT + 1)))
+exchange('issued', subject(claims(nbf=AT)))
+exchange('issued', subject(claims(exp=AT + 7200)))
+introspect('active', access(jti='6', exp=AT + 3600), AT + 3599)
+introspect('inactive', access(jti='6', exp=AT + 3600), AT + 3600)
+
+# The audience and the issuer.
+exchange('issued', subject(claims(aud=['x', NAME])))
+exchange('issued', subject(claims(aud=['x', 'https:' + NAME])))
+exchange('issued', subject(claims(aud='https:' + NAME)))
+for audience in (['x'], [], 'http:' + NAME, NAME + '/', 'https:https:' + NAME):
+    exchange('E18 Audience', subject(claims(aud=audience)))
+exchange('E18 Issuer', subject(claims(iss=START['issuer'] + '/')))
+exchange('E18 Issuer', subject(claims(iss='x', aud='x', exp=AT)))
+exchange('E18 Audience', subject(claims(aud='x', exp=AT)))
+
+# Faults of the signature, in the order of its rules.
+exchange('E16 Alg', subject(header='{"alg":"none"}'))
+exchange('E16 Crit', subject(header='{"alg":"HS256","crit":["b64"]}'))
+exchange('E16 Header', subject(header='x'))
+exchange('E16 Parts', 'a.b')
+exchange('E16 Parts', subject() + '.')
+exchange('E16 Mac', subject(key=OWN))
+exchange('E16 Base64 0', '=' + subject())
+exchange('E16 Base64 1', '=.'.join(subject().rsplit('.', 1)))
+exchange('E16 Base64 2', subject()[:-1])
+
+# Faults of the claims.
+exchange('E17 Json', subject('{'))
+exchange('E17 NotObject', subject('[]'))
+exchange('E17 Iss', subject(claims(iss=None)))
+for fault, change in [('Aud', {'aud': 7}), ('Exp', {'exp': 'x'}), ('Nbf', {'nbf': -1}), ('Iat', {'iat': 1.5}), ('MayAct', {'may_act': 'x'}),
+                      ('Exp', {'exp': 2 ** 53})]:
+    exchange('E17 ' + fault, subject(claims(**change)))
+
+# A parameter that asks for more isn't built yet; without a value it counts as absent.
+for name in ('requested_token_type', 'actor_token', 'actor_token_type', 'resource', 'scope', 'options'):
+    exchange('Z1', tail=f'&{name}=x')
+    exchange('issued', tail=f'&{name}=')
+for name, value in exchange_pairs(START, subject()):
+    exchange('Z1', **{name: None})
+    exchange('Z1', tail='&' + form([(name, value)]))
+exchange('Z1', grant_type=OAUTH + 'grant-type:jwt-bearer')
+exchange('Z1', audience=NAME + 'x')
+exchange('Z1', audience='https:' + NAME)
+exchange('Z1', subject_token_type=OAUTH + 'token-type:id_token')
+exchange('Z1', subject_token_type=OAUTH + 'token-type:access_token')
+exchange('Z1', tail='&colour=%FF')
+exchange('issued', tail='&colour=red')
+
+# Only the very text that was issued is active.
+introspect('active', FIRST, AT + 899)
+introspect('inactive', subject())
+introspect('inactive', FIRST[:-1] + 'A')
+introspect('inactive', access(jti='1'))
+introspect('inactive', access(header='{"typ":"JWT","alg":"HS256"}', jti='0'))
+introspect('inactive', access(jti='00'))
+introspect('inactive', access(jti='4294967296'))
+introspect('inactive', '.' + FIRST)
+introspect('active', FIRST, AT + 899, '&token=')
+
+# Commands: the bearer, the object, the kind, and each member.
+admin('U1', {'kind': 'pool'}, '-')
+admin('U1', {'kind': 'pool'}, GATE)
+admin('U1', '', ADMIN + 'x')
+admin('U1', '', ADMIN[:-1])
+for body in ('', '[]', '"pool"', 'null', '{"kind":"pool"', '{"kind":"pool"} x', b'\xff', b'{"kind":"\xff"}'):
+    admin('A1', body)
+admin('A2', '{}')
+for kind in (1, None, 'federated', 'narrow', 'Pool', 'pools', ''):
+    admin('A2', {'kind': kind})
+admin('Z1', {'kind': 'provider'})
+admin('Z1', {'kind': 'provider', 'project': '1234', 'pool': 'ci-pool'})
+for member, command in [
+    ('project', {'kind': 'pool'}),
+    ('project', {'kind': 'pool', 'project': '0'}),
+    ('project', {'kind': 'pool', 'project': 1234, 'pool': 'ci-pool'}),
+    ('pool', {'kind': 'pool', 'project': '1234'}),
+    ('pool', {'kind': 'pool', 'project': '1234', 'pool': 'ci'}),
+    ('project', {'kind': 'pool', 'pool': 'ci', 'disabled': 1}),
+    ('disabled', {'kind': 'pool', 'project': '1234', 'pool': 'ci-pool', 'disabled': 'true'}),
+    ('disabled', {'kind': 'pool', 'project': '1234', 'pool': 'ci-pool', 'disabled': None}),
+    ('email', {'kind': 'account'}),
+    ('email', {'kind': 'account', 'email': 'a@b.example.com'}),
+    ('disabled', {'kind': 'account', 'email': BUILDER, 'disabled': 0}),
+    ('role', {'kind': 'role', 'permissions': []}),
+    ('role', {'kind': 'role', 'role': 'roles/'}),
+    ('permissions', {'kind': 'role', 'role': 'roles/x'}),
+    ('permissions', {'kind': 'role', 'role': 'roles/x', 'permissions': '*'}),
+    ('permissions', {'kind': 'role', 'role': 'roles/x', 'permissions': ['a.b.c'] * 257}),
+    ('permissions', {'kind': 'role', 'role': 'roles/x', 'permissions': ['a.b']}),
+    ('scope', {'kind': 'scope', 'permissions': '*'}),
+    ('scope', {'kind': 'scope', 'scope': 'a b', 'permissions': '*'}),
+    ('permissions', {'kind': 'scope', 'scope': 's'}),
+    ('permissions', {'kind': 'scope', 'scope': 's', 'permissions': '**'}),
+    ('resource', {'kind': 'policy'}),
+    ('bindings', {'kind': 'policy', 'resource': '//a', 'bindings': {}}),
+    ('resource', {'kind': 'policy', 'resource': '//a/', 'bindings': []}),
+    ('bindings', {'kind': 'policy', 'resource': '//a', 'bindings': [{'role': 'roles/x'}]}),
+    ('bindings', {'kind': 'policy', 'resource': '//a', 'bindings': [{'role': 'roles/x', 'members': ['allUsers']}]}),
+    ('bindings', {'kind': 'policy', 'resource': '//a', 'bindings': [{'role': 'roles/x', 'members': []}] * 65}),
+    ('bindings', {'kind': 'policy', 'resource': '//a', 'bindings': [{'role': 'roles/x', 'members': [f'principalSet://{PATH}/*'] * 65}]}),
+]:
+    admin('A3 ' + member, command)
+admin('Z1', {'kind': 'policy', 'bindings': [{'condition': None}]})
+admin('Z1', {'kind': 'policy', 'resource': '//a', 'bindings': [{'role': 'roles/x', 'members': [], 'condition': {'expression': 'true'}}]})
+admin('A3 bindings', {'kind': 'policy', 'resource': '//a', 'bindings': ['condition']})
+admin('A3 bindings', {'kind': 'policy', 'resource': '//a', 'condition': None, 'bindings': 1})
+
+# A role, an exchange and a policy; then checks of the token at its edges.
+grant('A4', f'principalSet://{PATH}/*')
+admin('entry 17', {'kind': 'role', 'role': VIEWER, 'permissions': [GET]})
+SORTED = subject({name: FULL[name] for name in sorted(FULL)})
+exchange('issued', SORTED)
+check('G9')
+grant('entry 19', f'principalSet://{PATH}/*')
+check('allowed')
+check('allowed', resource=BUCKET + '/objects/x')
+check('G9', resource=BUCKET[:-1] + 'b')
+check('G9', resource=BUCKET + 'b')
+check('G9', permission='storage.objects.put')
+check('allowed', at=AT + 899)
+check('G4', at=AT + 900)
+check('allowed', at=0)
+check('G4', at=200000000000)
+for bearer in ('-', ADMIN, GATE + 'x'):
+    check('U1', bearer=bearer)
+for body in ('', '[]', '"a"', '{'):
+    checks('C1', body)
+checks('C2', '{}')
+check('C2', 1)
+checks('C3', '{"token":"a"}')
+check('C3', 'a', permission='a.b')
+checks('C4', compact({'token': 'a', 'permission': GET}))
+check('C4', 'a', resource=BUCKET + '/')
+check('C3', '', permission=None)
+
+# Texts without a signed shape, and with a wrong MAC.
+for text in ('', 'a.b', '....', access()[:-2]):
+    check('G1', text)
+FRONT = access().rpartition('.')[0] + '.'
+for text in (FRONT, FRONT + encoded(b'0' * 32), FRONT + encoded(b'0' * 31), access(key=OUTSIDE)):
+    check('G2', text)
+check('G1', access(header='{"alg":"none","typ":"JWT"}'))
+check('G1', access(header='[]'))
+check('G1', access(header='{"alg":"HS256","crit":[]}'))
+
+# Payloads under the service's key that it does and doesn't write.
+check('G3', access('{}'))
+check('G3', access('x'))
+check('allowed', access(header='{"typ":"JWT","alg":"HS256"}'))
+check('allowed', access(jti='4294967295'))
+check('G3', access(jti='4294967296'))
+check('G3', access(jti='00'))
+check('G3', access(jti=0))
+check('allowed', access(exp=2 ** 53 - 1), at=200000000000)
+check('G3', access(exp=2 ** 53))
+check('G3', access(iss=ISSUER + 'x'))
+check('G3', access(more=1))
+check('G3', access(iat=None))
+check('G3', access(scope='other'))
+check('G3', access(sub=f'principal://{PATH}/subject/x'))
+check('G3', access(wif={'bounds': [[]]}))
+check('G3', access(wif={'scopes': []}))
+check('allowed', access(wif={'pools': []}))
+check('G5 1', access(wif={'pools': ['1234/ci-pool', '1234/no-pool']}))
+check('G6 0', access(wif={'accounts': [OTHER]}))
+check('G7 1', access(wif={'scopes': [EVERY, 'unknown', EVERY]}))
+check('allowed', access(wif={'scopes': ['a ' + EVERY, EVERY]}))
+check('G3', access(wif={'scopes': ['a  b', EVERY]}))
+check('allowed', access(act=nested('act', ['serviceAccount:' + OTHER] * 8)))
+check('G3', access(act=nested('act', ['serviceAccount:' + OTHER] * 9)))
+check('G3', access(act={'sub': 'x'}))
+check('allowed', access(may_act={'sub': 'x'}))
+check('allowed', access(may_act={'sub': 'x' * 1024}))
+check('G3', access(may_act={'sub': 'x' * 1025}))
+check('G9', access(sub='serviceAccount:' + BUILDER, wif={'who': {'account': BUILDER}}))
+check('G3', access(json.dumps(facts())))
+check('G3', access(compact(dict(reversed(facts().items())))))
+check('G3', access(compact(facts())[:-1] + f',"exp":{AT + 900}}}'))
+check('G3', access(compact(facts()).replace('"pool":"1', '"pool":"\\u0031')))
+
+# What is put again changes the next answer: scope words, roles, policies, pools.
+for number, permissions, want in [(20, [], 'G7 0'), (21, ['a.b.c'], 'G7 0'), (22, ['a.b.c', GET], 'allowed'), (23, '*', 'allowed')]:
+    admin(f'entry {number}', {'kind': 'scope', 'scope': EVERY, 'permissions': permissions})
+    check(want)
+    if number == 20:
+        introspect('active', access(), AT + 100)
+for number, permissions, want in [(24, [], 'G9'), (25, ['a.b.c', GET], 'allowed')]:
+    admin(f'entry {number}', {'kind': 'role', 'role': VIEWER, 'permissions': permissions})
+    check(want)
+grant('entry 26', f'principal://{PATH}/subject/other')
+check('G9')
+grant('entry 27', f'principal://{PATH}/subject/other', f'principal://{PATH}/subject/{SUBJECT}')
+check('allowed')
+admin('A4', {'kind': 'policy', 'resource': BUCKET, 'bindings': [{'role': 'roles/none', 'members': []}]})
+check('allowed')
+admin('entry 28', {'kind': 'account', 'email': BUILDER})
+admin('entry 29', {'kind': 'account', 'email': BUILDER, 'disabled': True, 'more': 1})
+admin('entry 30', {'kind': 'pool', 'project': '1235', 'pool': 'ci-pool', 'disabled': True})
+check('allowed')
+admin('entry 31', {'kind': 'pool', 'project': '1234', 'pool': 'ci-pool', 'disabled': True})
+check('G5 0')
+check('G4', at=AT + 900)
+introspect('inactive', access(), AT + 100)
+exchange('E15', SORTED, AT + 100)
+admin('entry 32', {'kind': 'pool', 'disabled': True, 'project': '1234', 'pool': 'ci-pool'})
+exchange('E15', SORTED, AT + 100)
+admin('entry 33', '{"disabled":true,"kind":"role","kind":"pool","pool":"ci-pool","project":"1234","disabled":false}')
+check('allowed')
+introspect('active', access(), AT + 100)
+exchange('issued', SORTED, AT + 100)
+introspect('active', access(jti='18', iat=AT + 100), AT + 100)
+check('allowed', access(jti='18', iat=AT + 100))
+
+# A thousand roles and no more, and a thousand pools with that of the start; a name that is there is put again.
+for number in range(1, 1000):
+    admin(f'entry {34 + number}', {'kind': 'role', 'role': f'roles/r{number}', 'permissions': []}, at=0)
+admin('A6', {'kind': 'role', 'role': 'roles/r1000', 'permissions': []})
+admin('entry 1034', {'kind': 'role', 'role': 'roles/r999', 'permissions': []})
+for number in range(2, 1000):
+    admin(f'entry {1033 + number}', {'kind': 'pool', 'project': '7', 'pool': f'pool-{number}'}, at=0)
+admin('A6', {'kind': 'pool', 'project': '7', 'pool': 'pool-1000'})
+admin('entry 2033', {'kind': 'pool', 'project': '7', 'pool': 'pool-999'})

@@ -1,0 +1,85 @@
+"""Signs tokens (HS256) and writes the frames of a script, with Python's standard library alone.
+
+usage: python3 tools/signing.py CONFIG exchange SUBJECT [AT]              an outside token of the configuration's provider, exchanged
+       python3 tools/signing.py CONFIG introspect TOKEN [AT]
+       python3 tools/signing.py CONFIG check TOKEN PERMISSION RESOURCE [AT]
+       python3 tools/signing.py CONFIG admin COMMAND [AT]                 COMMAND is a JSON object
+Prints the frame for `sts script CONFIG JOURNAL`. AT is the moment in seconds since 1970, 1700000000 if left out.
+"""
+import base64
+import hashlib
+import hmac
+import json
+import sys
+from urllib.parse import quote
+
+HEADER = '{"alg":"HS256","typ":"JWT"}'
+AT = 1700000000
+
+
+def decoded(text):
+    return base64.urlsafe_b64decode(text + '=' * (-len(text) % 4))
+
+
+def encoded(data):
+    return base64.urlsafe_b64encode(data).rstrip(b'=').decode()
+
+
+def compact(value):
+    return json.dumps(value, separators=(',', ':'), ensure_ascii=False)
+
+
+def mac(key, text):
+    return hmac.new(key, text.encode(), hashlib.sha256).digest()
+
+
+def signed(key, payload, header=HEADER):
+    """The compact form of a payload, a text or a value, under a key."""
+    payload = payload if isinstance(payload, str) else compact(payload)
+    front = encoded(header.encode()) + '.' + encoded(payload.encode())
+    return front + '.' + encoded(mac(key, front))
+
+
+def frame(path, bearer, at, body):
+    body = body if isinstance(body, bytes) else body.encode()
+    return f'{path} {bearer} {at} {len(body)}\n'.encode() + body + b'\n'
+
+
+def form(pairs):
+    """A form's text: the names as they stand, the values quoted."""
+    return '&'.join(name + '=' + quote(value, safe='') for name, value in pairs)
+
+
+def provider_name(start):
+    return f"//iam.googleapis.com/projects/{start['project']}/locations/global/workloadIdentityPools/{start['pool']}/providers/{start['provider']}"
+
+
+def exchange_pairs(start, token):
+    kinds = 'urn:ietf:params:oauth:'
+    return [('grant_type', kinds + 'grant-type:token-exchange'), ('audience', provider_name(start)),
+            ('subject_token', token), ('subject_token_type', kinds + 'token-type:jwt')]
+
+
+def main(words):
+    with open(words[0]) as source:
+        config = json.load(source)
+    start, verb, rest = config.get('start'), words[1], words[2:]
+    count = {'exchange': 1, 'introspect': 1, 'check': 3, 'admin': 1}[verb]
+    at = int(rest[count]) if len(rest) > count else AT
+    gate = config['gate']
+    if verb == 'exchange':
+        claims = {'iss': start['issuer'], 'sub': rest[0], 'aud': 'https:' + provider_name(start), 'exp': at + 900, 'iat': at}
+        made = frame('/v1/token', '-', at, form(exchange_pairs(start, signed(decoded(start['key']), claims))))
+    elif verb == 'introspect':
+        made = frame('/v1/introspect', gate, at, 'token=' + rest[0])
+    elif verb == 'check':
+        made = frame('/v1/check', gate, at, compact(dict(zip(('token', 'permission', 'resource'), rest))))
+    else:
+        made = frame('/v1/admin', config['admin'], at, rest[0])
+    sys.stdout.buffer.write(made)
+
+
+if __name__ == '__main__':
+    if len(sys.argv) < 4 or sys.argv[2] not in ('exchange', 'introspect', 'check', 'admin'):
+        sys.exit(__doc__)
+    main(sys.argv[1:])
