@@ -11,6 +11,7 @@ use Rattle.iam_names.specs.declared.who.Who.{Who}
 use Rattle.iam_names.specs.declared.who.Who.TheVariants.{Outside, Account}
 use Rattle.access_token.specs.declared.facts.Facts.{Facts}
 
+-- texts of UTF-8
 abbrev pub AreUtf8 : List (List ℕ) → Type 0
 AreUtf8 xs = AllByRecursion IsUtf8 xs
 
@@ -26,10 +27,12 @@ pub record IsExactIdentity (identity : Identity) : Type 0 where
   pub attributes : AllByRecursion (λ (attribute : List ℕ × List ℕ). IsUtf8 attribute.0 × IsUtf8 attribute.1) identity.attributes
   pub rising : IsStrictlySortedBy (slice_cmp nat_cmp) (map (λ attribute. attribute.0) identity.attributes)
 
+-- a pool of UTF-8
 pub record IsExactPool (pool : PoolName) : Type 0 where
   pub project : IsUtf8 pool.project
   pub pool_utf8 : IsUtf8 pool.pool
 
+-- an identity of a pool, or an account of UTF-8
 abbrev pub IsExactWho : Who → Type 0
 IsExactWho (Outside pool identity) = IsExactPool pool × IsExactIdentity identity
 IsExactWho (Account account) = IsUtf8 account

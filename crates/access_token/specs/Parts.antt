@@ -73,17 +73,22 @@ scopes_in wif = formed (λ scopes. nat_le 1 (length scopes)) (list_at scope_in (
 -- attributes, each of its form
 abbrev pub attributes_in : Members → Option (List (List ℕ × List ℕ))
 attributes_in no_members = Some []
-attributes_in (member name d members) = option_and_then (λ value. option_map (λ more. (name, value) ∷ more) (attributes_in members)) (formed (λ value. is_attribute (name, value)) (as_str d))
+attributes_in (member name d members) =
+    option_and_then (λ value. option_map (λ more. (name, value) ∷ more) (attributes_in members)) (formed (λ value. is_attribute (name, value)) (as_str d))
 
+-- the attributes of an outside identity
 abbrev pub attributes_at : Data → Option (List (List ℕ × List ℕ))
 attributes_at d = option_and_then attributes_in (option_and_then as_object (get (codes "attributes") d))
 
+-- its groups, of 1 to 256 bytes each
 abbrev pub groups_at : Data → Option (List (List ℕ))
 groups_at d = formed (list_all (has_size 1 256)) (texts_at (codes "groups") d)
 
+-- its pool
 abbrev pub pool_at : Data → Option PoolName
 pool_at d = option_and_then pool_in (get (codes "pool") d)
 
+-- its subject, of 1 to 127 bytes
 abbrev pub subject_at : Data → Option (List ℕ)
 subject_at d = formed (has_size 1 127) (text_at (codes "subject") d)
 
@@ -96,11 +101,12 @@ outside_in d = do
   subject ← subject_at d
   Some (Outside pool (record { subject = subject; groups = groups; attributes = attributes }))
 
+-- the account of a text, where one is there, and else the outside identity
 abbrev pub who_by : Option (List ℕ) → Data → Option Who
 who_by None d = outside_in d
 who_by (Some account) d = option_map Account (passing is_account account)
 
--- an account, or an outside identity
+-- whom the token is of
 abbrev pub who_in : Data → Option Who
 who_in d = who_by (text_at (codes "account") d) d
 
@@ -118,4 +124,15 @@ facts_in d = do
   pools ← list_at pool_in (codes "pools") wif
   scopes ← scopes_in wif
   who ← option_and_then who_in (get (codes "who") wif)
-  Some (record { number = number; sub = sub; iat = iat; exp = exp; act = act; may_act = may_act; who = who; pools = pools; accounts = accounts; scopes = scopes })
+  Some (record {
+    number = number;
+    sub = sub;
+    iat = iat;
+    exp = exp;
+    act = act;
+    may_act = may_act;
+    who = who;
+    pools = pools;
+    accounts = accounts;
+    scopes = scopes;
+  })

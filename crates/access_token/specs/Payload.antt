@@ -13,10 +13,12 @@ abbrev pub optional : List ℕ → Option Data → Members → Members
 optional name None members = members
 optional name (Some d) members = member name d members
 
+-- the items of an array, each written
 abbrev pub items : {A : Type 0} → (A → Data) → List A → Items
 items write [] = no_items
 items write (x ∷ xs) = item (write x) (items write xs)
 
+-- an array of texts
 abbrev pub texts : List (List ℕ) → Data
 texts xs = array (items string xs)
 
@@ -31,15 +33,18 @@ words_text [] = []
 words_text (word ∷ []) = word
 words_text (word ∷ next ∷ words) = word ++ (32 ∷ words_text (next ∷ words))
 
+-- the words of the last exchange
 abbrev pub last_words : List (List (List ℕ)) → List (List ℕ)
 last_words [] = []
 last_words (words ∷ []) = words
 last_words (words ∷ next ∷ more) = last_words (next ∷ more)
 
+-- attributes as members
 abbrev pub attributes_data : List (List ℕ × List ℕ) → Members
 attributes_data [] = no_members
 attributes_data (attribute ∷ attributes) = member attribute.0 (string attribute.1) (attributes_data attributes)
 
+-- whom the token is of
 unfoldable pub who_data : Who → Data
 who_data (Outside pool identity) = object (
     member (codes "attributes") (object (attributes_data identity.attributes)) (
@@ -70,5 +75,6 @@ payload_data issuer facts = object (
     member (codes "sub") (string facts.sub) (
     member (codes "wif") (wif_data facts) no_members)))))))))
 
+-- its text
 unfoldable pub payload_text : List ℕ → Facts → List ℕ
 payload_text issuer facts = compact_text (payload_data issuer facts)

@@ -8,7 +8,8 @@ ghost use Rattle.serde_json.specs.View.{view, members_view};
 ghost use Rattle.iam_names.specs.PoolName.{pool_text};
 ghost use Rattle.iam_names.specs.declared.who.Who.{Who as Whom};
 ghost use Rattle.access_token.specs.Facts.{name_of};
-ghost use Rattle.access_token.specs.Payload.{items, optional, texts, nested, attributes_data, who_data, wif_data, payload_data, payload_text, words_text as joined, last_words as last_of};
+ghost use Rattle.access_token.specs.Payload.{items, optional, texts, nested, words_text as joined, last_words as last_of};
+ghost use Rattle.access_token.specs.Payload.{attributes_data, who_data, wif_data, payload_data, payload_text};
 
 use crate::Facts;
 use base_types::{Items, Text, TextMap};

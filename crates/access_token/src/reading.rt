@@ -1,4 +1,4 @@
-ghost use Rattle.std.specs.Prelude.{◌≡◌, codes, IfOk, option_and_then};
+ghost use Rattle.std.specs.Prelude.{◌≡◌, IfOk, option_and_then};
 ghost use Rattle.std.specs.Str.{bytes_eq};
 ghost use Rattle.serde_json.specs.View.{view};
 ghost use Rattle.json_text.specs.Document.{document};
@@ -21,22 +21,11 @@ use serde_json::Value;
 use std::alloc::{AllocError, Global};
 
 /// Why a payload says no facts.
-#[derive(Clone, Copy, Debug, PartialEq, Eq)]
+#[derive(Clone, Copy, Debug)]
 pub enum PayloadFault {
     /// It isn't the payload that is written for facts of their forms and the issuer.
     Form,
     Memory,
-}
-
-impl From<AllocError> for PayloadFault {
-    ghost use Rattle.std.specs.Prelude.{◌≡◌};
-    ghost use Rattle.access_token.specs.declared.reading.PayloadFault.TheVariants.{Memory};
-
-    ghost from_gives = { λ _ e. e ≡ Memory };
-
-    fn from(_: AllocError) -> Self {
-        PayloadFault::Memory
-    }
 }
 
 /// The facts that a token's payload says that is written for the issuer. `Form` comes exactly where it says none.

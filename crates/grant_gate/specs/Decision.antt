@@ -17,9 +17,11 @@ abbrev pub place_failing : {A : Type 0} → (A → Bool) → List A → Option �
 place_failing test [] = None
 place_failing test (x ∷ xs) = if test x then option_map (λ place. place + 1) (place_failing test xs) else Some 0
 
+-- denied by the rule with the place, where there is one
 abbrev pub denied_at : GateRule → Option ℕ → Option Decision
 denied_at rule place = option_map (Deny rule) place
 
+-- denied by the rule where the test fails
 abbrev pub denied_unless : Bool → GateRule → Option Decision
 denied_unless true rule = None
 denied_unless false rule = Some (Deny rule 0)
@@ -36,6 +38,7 @@ denials view facts permission at =
     denied_at G6 (place_failing (account_enabled view) facts.accounts) ∷
     denied_at G7 (place_failing (words_allow view permission) facts.scopes) ∷ []
 
+-- admitted where it is granted
 abbrev pub granted_or : Bool → Decision
 granted_or true = Admit
 granted_or false = Deny G9 0
@@ -52,6 +55,7 @@ fault_decision fault.Mac = Deny G2 0
 fault_decision fault.Claims = Deny G3 0
 fault_decision fault.Memory = Deny G1 0
 
+-- by the facts, or by the fault for which there are none
 abbrev pub decided : View → Result Facts GateFault → List ℕ → List ℕ → ℕ → Decision
 decided view (Err f) permission resource at = fault_decision f
 decided view (Ok facts) permission resource at = facts_decision view facts permission resource at
