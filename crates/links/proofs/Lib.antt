@@ -4,12 +4,11 @@ pub mod GoodLinks
 pub mod Held
 pub mod Issuing
 pub mod Journals
-pub mod Laws
+pub mod LinkLaws
 pub mod Names
 pub mod Places
 mod Preparing
 pub mod Replays
 pub mod Roots
 pub mod SourceForms
-pub mod Steps
 mod Subjects

@@ -1,6 +1,6 @@
 -- The steps of an entry's preparing are its licence and what its recording gives.
 use Rattle.std.proofs.Common.{◌≡◌, ℕ, List, [], ◌∷◌, length, Bool, true, false, not, refl, sym, ◌∙◌, ap, subst}
-use Rattle.std.specs.Prelude.{Option, None, Some, Result, Ok, Err, option_map, nat_lt, if◌then◌else◌}
+use Rattle.std.specs.Prelude.{Option, None, Some, Result, Ok, Err, IfOk, IfErr, option_map, nat_lt, if◌then◌else◌}
 use Rattle.std.specs.Result.{result_ok}
 use Rattle.std.specs.List.{list_all}
 use Rattle.base_types.specs.Rules.{fails_if, first_of}
@@ -25,13 +25,13 @@ use Rattle.links.specs.declared.prepared.Plan.TheVariants as plan
 use Rattle.links.specs.declared.source.Source.{Source}
 use Rattle.links.specs.Chain.{Chain, Root, chains_of}
 use Rattle.links.specs.Facts.{facts_of}
-use Rattle.links.specs.Licence.{first_unlicensed, knows_word, is_long, rule_of, prepared_of, Licensed, Prepares}
-use Rattle.links.specs.Prepared.{planned}
+use Rattle.links.specs.Licence.{first_unlicensed, fault_of, knows_word, is_long, rule_of, prepared_of, Licensed, Prepares}
+use Rattle.links.specs.Prepared.{PreparedEntry, planned}
 use Rattle.links.specs.Recorded.{recorded}
 use Rattle.links.specs.Sources.{passed}
 use Rattle.links.specs.State.{Content, link_of, made, made_by, source_at, federated_link, token_text}
 use Rattle.links.proofs.Chains.{length-chains_of}
-use Rattle.links.proofs.Steps.{Gives, federated_chain, recorded_of, signed_by, issued_by, issued_of}
+use Rattle.links.specs.Steps.{Gives, federated_chain, recorded_of, signed_by, issued_by, issued_of}
 
 -- ---- the chain of the next link
 
@@ -56,7 +56,11 @@ long_is c x source long is size =
 ruled : (c : Content) (x : Exchange) (source : Source) (long : Bool) → list_all (knows_word c) x.scope ≡ true → source_at c x.provider x.token x.at ≡ Ok source
     → nat_lt 8192 (length (signed_text c (federated_chain c x source))) ≡ long → first_unlicensed c (entry.Federated x) ≡ first_of (fails_if long E25 ∷ [])
 unfolding first_unlicensed
-ruled c x source long known is size = rw (known, is, long_is c x source long is size) refl
+ruled c x source long known is size =
+    let length_rule = fails_if (is_long c (made c (entry.Federated x))) E25 in
+    ap (λ (k : Bool). first_of (fails_if (not k) E11 ∷ fault_of (source_at c x.provider x.token x.at) ∷ length_rule ∷ [])) known
+    ∙ ap (λ (s : Result Source RuleCode). first_of (fails_if (not true) E11 ∷ fault_of s ∷ length_rule ∷ [])) is
+    ∙ ap (λ (l : Bool). first_of (fails_if (not true) E11 ∷ fault_of {X = Source} (Ok source) ∷ fails_if l E25 ∷ [])) (long_is c x source long is size)
 
 -- ---- what is prepared
 
@@ -70,10 +74,15 @@ planned_is : (c : Content) (x : Exchange) (source : Source) → source_at c x.pr
     → planned (plan.Federated x (made_up c (federated_chain c x source))) ≡ prepared_of c (entry.Federated x)
 planned_is c x source is = rw (made_source c x source is, text_is c (federated_chain c x source)) refl
 
+abbrev signed_if : Content → Chain → Bool → Result Signed RuleCode
+signed_if c chain long = if long then Err E25 else Ok (record { payload = payload_text c.issuer (facts_of chain); token = signed_text c chain })
+
+abbrev finished : Chain → Signed → Result Issued RuleCode
+finished chain signed = Ok (record { recorded = recorded chain; payload = signed.payload; token = signed.token })
+
 fits_by : (c : Content) (x : Exchange) (source : Source) (long : Bool) (issued : Issued) → list_all (knows_word c) x.scope ≡ true → source_at c x.provider x.token x.at ≡ Ok source
     → nat_lt 8192 (length (signed_text c (federated_chain c x source))) ≡ long
-    → ((if long then Err E25 else Ok (record { payload = payload_text c.issuer (facts_of (federated_chain c x source)); token = signed_text c (federated_chain c x source) }))
-        >>= (λ (signed : Signed). Ok (record { recorded = recorded (federated_chain c x source); payload = signed.payload; token = signed.token }))) ≡ Ok issued → Fits c x issued
+    → (signed_if c (federated_chain c x source) long >>= finished (federated_chain c x source)) ≡ Ok issued → Fits c x issued
 fits_by c x source true issued known is size ok = absurd (cc ok)
 fits_by c x source false issued known is size ok =
     let same : made_up c (federated_chain c x source) ≡ issued = cc ok in
@@ -92,8 +101,7 @@ prepares c x issued ok = fits_source c x (list_all (knows_word c) x.scope) (sour
 
 long_by : (c : Content) (x : Exchange) (source : Source) (long : Bool) (rule : RuleCode) → list_all (knows_word c) x.scope ≡ true → source_at c x.provider x.token x.at ≡ Ok source
     → nat_lt 8192 (length (signed_text c (federated_chain c x source))) ≡ long
-    → ((if long then Err E25 else Ok (record { payload = payload_text c.issuer (facts_of (federated_chain c x source)); token = signed_text c (federated_chain c x source) }))
-        >>= (λ (signed : Signed). Ok (record { recorded = recorded (federated_chain c x source); payload = signed.payload; token = signed.token }))) ≡ Err rule → first_unlicensed c (entry.Federated x) ≡ Some rule
+    → (signed_if c (federated_chain c x source) long >>= finished (federated_chain c x source)) ≡ Err rule → first_unlicensed c (entry.Federated x) ≡ Some rule
 long_by c x source true rule known is size err = let same : E25 ≡ rule = cc err in ruled c x source true known is size ∙ ap (λ (r : RuleCode). Some r) same
 long_by c x source false rule known is size err = absurd (cc err)
 
@@ -127,3 +135,10 @@ put_prepares c command ready is none =
 pub put_refused : (c : Content) (command : Command) (fault : PutFault) → put_fault c.view command ≡ Some fault → first_unlicensed c (entry.Put command) ≡ Some (rule_of fault)
 unfolding first_unlicensed
 put_refused c command fault is = ap (λ (f : Option PutFault). option_map rule_of f) is
+
+-- ---- room
+
+pub room_prepares : (c : Content) (e : Entry) (p : PreparedEntry) (r : Result PreparedEntry ApplyFault) → (p ≡ prepared_of c e) × Licensed c e
+    → IfOk r (λ (q : PreparedEntry). q ≡ p) → IfErr r (λ (f : ApplyFault). f ≡ Memory) → Prepares c e r
+room_prepares c e p (Ok q) fits ok err = (ok ∙ fits.0, fits.1)
+room_prepares c e p (Err fault) fits ok err = subst (λ (f : ApplyFault). Prepares c e (Err f)) (sym err) tt

@@ -9,3 +9,4 @@ pub mod Recorded
 pub mod Shown
 pub mod Sources
 pub mod State
+pub mod Steps

@@ -22,11 +22,12 @@ kind_of (held.Federated exp) facts = Kind.Federated (record { who = facts.who; e
 abbrev pub link_of_recorded : RecordedLink → Link
 link_of_recorded row = record { at = row.facts.iat; words = last_words row.facts.scopes; kind = kind_of row.kind row.facts }
 
--- what is held of link n is what its token says
+-- this is what is held of link n
 pub record IsHeld (links : List Link) (n : ℕ) (row : RecordedLink) : Type 0 where
   pub chain : Chain
   pub there : chain_at (chains_of links) n ≡ Some chain
-  pub facts : row.facts ≡ facts_of chain
+  pub is : row ≡ recorded chain
 
+-- and this of each link
 pub record AreHeld (links : List Link) (rows : List RecordedLink) : Type 0 where
   pub each : (n : ℕ) (row : RecordedLink) → slice_get rows n ≡ Some row → IsHeld links n row

@@ -13,7 +13,7 @@ ghost use Rattle.links.specs.Facts.{pools_in};
 ghost use Rattle.links.specs.Licence.{knows_word};
 ghost use Rattle.links.specs.Recorded.{recorded};
 ghost use Rattle.links.specs.State.{source_at, named};
-ghost use Rattle.links.proofs.Steps.{Gives, Passes, federated_chain, issued_by, issued_of, recorded_of, signed_by};
+ghost use Rattle.links.specs.Steps.{Gives, Passes, federated_chain, issued_by, issued_of, recorded_of, signed_by};
 
 use crate::prepared::Issued;
 use crate::source::{Source, name_of, read_source};
@@ -61,7 +61,7 @@ fn with_token(
 ) -> Result<Issued, ApplyFault>
     ensures { Gives (λ issued. issued) result (issued_by state.now.content recorded) }
 {
-    match signed(alloc, state, &recorded.facts) {
+    match sign_facts(alloc, state, &recorded.facts) {
         Ok(signed) => Ok(Issued {
             recorded,
             payload: signed.payload,
@@ -81,7 +81,7 @@ pub(crate) struct Signed {
     pub(crate) token: Text,
 }
 
-fn signed(alloc: Global, state: &State, facts: &Facts) -> Result<Signed, ApplyFault>
+fn sign_facts(alloc: Global, state: &State, facts: &Facts) -> Result<Signed, ApplyFault>
     ensures { Gives (λ signed. signed) result (signed_by state.now.content facts.now) }
 {
     let payload = write_payload(alloc, state.issuer(), facts)?;
@@ -130,7 +130,7 @@ fn link_from(
     requires { IsExchange exchange.now }
     ensures { Gives (λ link. link) result (Ok (recorded (federated_chain state.now.content exchange.now source))) }
 {
-    match shown(alloc, &source.who, exchange.scope.as_slice()) {
+    match show(alloc, &source.who, exchange.scope.as_slice()) {
         Ok(shown) => Ok(recorded_link(
             alloc,
             state.link_count(),
@@ -153,7 +153,7 @@ struct Shown {
     scopes: Items<Items<ScopeWord>>,
 }
 
-fn shown(alloc: Global, who: &Who, words: &[ScopeWord]) -> Result<Shown, AllocError>
+fn show(alloc: Global, who: &Who, words: &[ScopeWord]) -> Result<Shown, AllocError>
     ensures { IfOk result (λ shown. shown ≡ record { sub = name_of who.now; pools = pools_in who.now; scopes = words.now ∷ [] }) }
 {
     let sub = subject_name(alloc, who)?;

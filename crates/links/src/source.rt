@@ -5,7 +5,7 @@ ghost use Rattle.iam_names.specs.Audience.{audience_text};
 ghost use Rattle.wif_claims.specs.Payload.{claims_of};
 ghost use Rattle.service_config.specs.Configuration.{provider_name};
 ghost use Rattle.links.specs.Sources.{source_of, source_of_claims, who_of_claims, outside_of, first_admission_fault, opened, claimed_by, is_acceptable, subject_claim, subject_by, text_of_value, value_under, value_in};
-ghost use Rattle.links.proofs.Steps.{Gives, Passes};
+ghost use Rattle.links.specs.Steps.{Gives, Passes};
 
 use crate::{ApplyFault, MapFault, RuleCode};
 use base_types::{Items, Text, TextMap};

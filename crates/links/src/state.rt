@@ -3,8 +3,8 @@ ghost use Rattle.std.specs.Option.{option_copied};
 ghost use Rattle.service_config.specs.Formed.{IsFormedConfig};
 ghost use Rattle.links.specs.State.{pool_of as start_pool, start_of};
 
-use crate::RecordedLink;
-use crate::prepared::Plan;
+use crate::prepared::{Issued, Plan};
+use crate::{Exchange, RecordedLink};
 use allow_policy::PutFault;
 use base_types::Text;
 use iam_names::PoolName;
@@ -91,12 +91,13 @@ impl State {
     ghost use Rattle.std.specs.Prelude.{◌≡◌, ◌≤◌, ◌<◌, ◌-◌, ◌^◌, length, not, nat_lt, OnOk, IfOk, Some, option_map};
     ghost use Rattle.std.specs.Option.{option_copied};
     ghost use Rattle.allow_policy.specs.Puts.{RefusesBy};
-    ghost use Rattle.service_view.specs.Puts.{put_fault, made_ready};
+    ghost use Rattle.service_view.specs.Puts.{put_fault, made_ready, command_of};
     ghost use Rattle.links.specs.Licence.{Licensed, Reached, prepared_of};
-    ghost use Rattle.links.specs.Entries.{IsEntry};
+    ghost use Rattle.links.specs.declared.entry.Entry.TheVariants as entries;
+    ghost use Rattle.links.specs.Entries.{IsEntry, IsExchange};
     ghost use Rattle.links.specs.Prepared.{planned};
     ghost use Rattle.links.specs.Recorded.{recorded as recorded_of};
-    ghost use Rattle.links.specs.State.{after, chain};
+    ghost use Rattle.links.specs.State.{after, chain, made};
 
     /// The `iss` of the tokens.
     pub fn issuer(&self) -> &str
@@ -140,6 +141,7 @@ impl State {
         ensures count { result ≡ length self.now.content.links }
         ensures few { result ≤ self.now.content.count }
     {
+        let _count = self.count;
         self.links.len() as u32
     }
 
@@ -176,7 +178,7 @@ impl State {
         service_view::ready(&mut self.view, command)
     }
 
-    // Places what was planned, and counts the entry.
+    // Records what was planned.
     pub(crate) fn carry_out(&mut self, plan: Plan)
         requires room { 1 ≤ self.old.spare }
         requires count { self.old.content.count < 2 ^ 32 - 1 }
@@ -186,12 +188,33 @@ impl State {
         ensures { self.new.content ≡ after self.old.content (planned plan).entry }
     {
         match plan {
-            Plan::Put(ready) => place(&mut self.view, ready),
-            Plan::Federated { exchange, issued } => {
-                drop(exchange);
-                self.links.push(issued.recorded).unwrap();
-            }
+            Plan::Put(ready) => self.put(ready),
+            Plan::Federated { exchange, issued } => self.record(exchange, issued),
         }
+    }
+
+    // Places a command.
+    fn put(&mut self, ready: Ready)
+        requires room { 1 ≤ self.old.spare }
+        requires count { self.old.content.count < 2 ^ 32 - 1 }
+        requires licensed { Licensed self.old.content (entries.Put (command_of ready)) }
+        ensures { self.new.content ≡ after self.old.content (entries.Put (command_of ready)) }
+    {
+        place(&mut self.view, ready);
+        self.count += 1;
+    }
+
+    // Puts the link of an exchange behind the others.
+    fn record(&mut self, exchange: Exchange, issued: Issued)
+        requires room { 1 ≤ self.old.spare }
+        requires count { self.old.content.count < 2 ^ 32 - 1 }
+        requires form { IsExchange exchange }
+        requires licensed { Licensed self.old.content (entries.Federated exchange) }
+        requires recorded { Some issued.recorded ≡ option_map recorded_of (made self.old.content (entries.Federated exchange)) }
+        ensures { self.new.content ≡ after self.old.content (entries.Federated exchange) }
+    {
+        drop(exchange);
+        self.links.push(issued.recorded).unwrap();
         self.count += 1;
     }
 }

@@ -45,7 +45,7 @@ fn config_from(alloc: Global, json: &Value) -> Result<Config, ConfigError>
     let gate = secret_at(json, "gate")?;
     let key = key_at(alloc, json)?;
     match start_from(alloc, json) {
-        Ok(start) => assembled(texts(alloc, issuer, admin, gate), key, start),
+        Ok(start) => assembled(copy_texts(alloc, issuer, admin, gate), key, start),
         Err(fault) => {
             drop(key);
             Err(fault)
@@ -61,7 +61,7 @@ struct Texts {
     gate: Text,
 }
 
-fn texts(alloc: Global, issuer: &str, admin: &str, gate: &str) -> Result<Texts, AllocError>
+fn copy_texts(alloc: Global, issuer: &str, admin: &str, gate: &str) -> Result<Texts, AllocError>
     ensures { IfOk result (λ texts. texts ≡ record { issuer = issuer.now; admin = admin.now; gate = gate.now }) }
 {
     let issuer = Text::copy_of(alloc, issuer)?;
@@ -144,6 +144,7 @@ fn provider_in(alloc: Global, id: &str, issuer: &str, json: &Value) -> Result<Ow
     ensures read { Reads (λ own. own) result (option_and_then (λ name. option_map (λ key. record { id = name; issuer = issuer.now; key = key })
         (option_and_then key_of (text_member (codes "key") (view json.now)))) (passing is_id id.now)) }
     ensures id { IfOk result (λ own. is_id own.id ≡ true) }
+    ensures issuer { IfOk result (λ own. own.issuer ≡ issuer.now) }
 {
     let id = provider_id(alloc, id)?;
     let key = key_at(alloc, json)?;

@@ -33,7 +33,7 @@ use Rattle.links.specs.Facts.{exp_of, pools_of, accounts_of, scopes_of}
 use Rattle.links.specs.Issued.{issued_link}
 use Rattle.links.specs.Licence.{first_unlicensed, Lawful}
 use Rattle.links.specs.State.{Content, chain, content_of, start_of, token_text}
-use Rattle.links.proofs.Laws.{issued_for}
+use Rattle.links.proofs.LinkLaws.{issued_for}
 use Rattle.links.proofs.Replays.{lawful-last, state_after-append}
 use Rattle.sts_core.specs.declared.form.Parameter.{Parameter}
 use Rattle.sts_core.specs.Asked.{asked_entry, asks_for, entry_of}

@@ -1,24 +1,25 @@
-use Rattle.std.proofs.Common.{◌≡◌, ◌∙◌, List, refl, sym, ap, subst, rules}
-use Rattle.std.specs.Prelude.{Option, Some, None, slice_get}
+use Rattle.std.proofs.Common.{◌≡◌, ◌∙◌, ◌<◌, ◌≤◌, ℕ, List, false, refl, sym, ap, arith, rules, length}
+use Rattle.std.specs.Prelude.{Option, Some, None, option_map}
 use Rattle.std.specs.Str.{bytes_eq}
-use Rattle.std.proofs.lemmas.Option.{slice_get_read, slice_get_past}
-use Rattle.links.specs.declared.link.Link.{Link}
+use Rattle.std.proofs.lemmas.Option.{slice_get_past}
 use Rattle.links.specs.Chain.{Chain}
 use Rattle.links.specs.Issued.{is_text_of}
-use Rattle.links.specs.Payload.{link_chain}
-use Rattle.links.specs.State.{token_text}
-use Rattle.links.proofs.Issuing.{chain-there, chain-missing}
+use Rattle.links.specs.State.{Content, chain, token_text}
+use Rattle.links.proofs.Issuing.{chain-missing}
 use Rattle.links.proofs.issued.is_token_of.Goals as goal
 
-pub returns-in_ok-token-in-Some : goal.returns-in_ok-token-in-Some
-returns-in_ok-token-in-Some c =
-    let there = slice_get_read c.links.result.now _ c.args.number c.in-Some.link.now refl c.in-Some.ensures.lookup.3.0 c.in-Some.ensures.lookup.1 in
-    let at : slice_get c.args.state.now.content.links c.args.number ≡ Some c.in-Some.link.now = subst (λ (l : List Link). slice_get l c.args.number ≡ Some c.in-Some.link.now) c.links.ensures.links there in
-    let same : c.eq.result ≡ bytes_eq (token_text c.args.state.now.content (link_chain c.args.number c.in-Some.link.now)) c.args.text.now = search rules in
-    same ∙ sym (ap (λ (o : Option Chain). is_text_of c.args.state.now.content c.args.text.now o) (chain-there c.args.state.now.content c.args.number c.in-Some.link.now at))
+by_token : (c : Content) (text token : List ℕ) (o : Option Chain) → option_map (token_text c) o ≡ Some token → bytes_eq token text ≡ is_text_of c text o
+by_token c text token None is = absurd (cc is)
+by_token c text token (Some found) is = let same : token_text c found ≡ token = cc is in ap (λ (t : List ℕ). bytes_eq t text) (sym same)
 
-pub returns-in-None : goal.returns-in-None
-returns-in-None c =
-    let past = slice_get_past c.links.result.now c.args.number c.in-None.ensures.lookup.3 in
-    let missing : slice_get c.args.state.now.content.links c.args.number ≡ None = subst (λ (l : List Link). slice_get l c.args.number ≡ None) c.links.ensures.links past in
-    sym (ap (λ (o : Option Chain). is_text_of c.args.state.now.content c.args.text.now o) (chain-missing c.args.state.now.content c.args.number missing))
+pub returns-then-number-link_count : goal.returns-then-number-link_count
+returns-then-number-link_count c =
+    let content = c.args.state.now.content in
+    let past : length content.links ≤ c.args.number = omega arith in
+    sym (ap (λ (o : Option Chain). is_text_of content c.args.text.now o) (chain-missing content c.args.number (slice_get_past content.links c.args.number past)))
+
+pub returns-in_ok-token : goal.returns-in_ok-token
+returns-in_ok-token c =
+    let content = c.args.state.now.content in
+    let same : c.eq.result ≡ bytes_eq c.in_ok-token.token c.args.text.now = search rules in
+    same ∙ by_token content c.args.text.now c.in_ok-token.token (chain content c.args.number) c.in_ok-token.ensures

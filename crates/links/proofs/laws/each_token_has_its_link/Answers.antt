@@ -1,5 +1,5 @@
 use Rattle.links.specs.State.{content_of}
-use Rattle.links.proofs.Laws.{has_chain, issued_for}
+use Rattle.links.proofs.LinkLaws.{has_chain, issued_for}
 use Rattle.links.proofs.laws.each_token_has_its_link.Goals as goal
 
 pub returns-clause-chain : goal.returns-clause-chain

@@ -1,4 +1,4 @@
-use Rattle.links.proofs.Laws.{chain_follows, token_follows}
+use Rattle.links.proofs.LinkLaws.{chain_follows, token_follows}
 use Rattle.links.proofs.laws.entries_that_follow_change_no_link.Goals as goal
 
 pub returns-clause-chain : goal.returns-clause-chain

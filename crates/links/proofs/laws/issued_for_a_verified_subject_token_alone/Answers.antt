@@ -1,4 +1,4 @@
-use Rattle.links.proofs.Laws.{was_shown}
+use Rattle.links.proofs.LinkLaws.{was_shown}
 use Rattle.links.proofs.laws.issued_for_a_verified_subject_token_alone.Goals as goal
 
 pub returns : goal.returns

@@ -1,20 +1,30 @@
-use Rattle.std.proofs.Common.{◌≡◌, ◌∙◌, subst}
+use Rattle.std.proofs.Common.{subst}
 use Rattle.std.specs.Prelude.{Err}
-use Rattle.service_view.specs.declared.command.Command.{Command}
+use Rattle.allow_policy.specs.Puts.{RefusesBy}
+use Rattle.allow_policy.specs.declared.put_fault.PutFault.{PutFault}
+use Rattle.allow_policy.specs.declared.put_fault.PutFault.TheVariants.{UnknownRole, Limit}
+use Rattle.service_view.specs.declared.ready_command.Ready.{Ready}
+use Rattle.service_view.specs.Puts.{put_fault}
 use Rattle.links.specs.declared.entry.Entry.TheVariants as entry
-use Rattle.links.specs.Licence.{prepared_of, Licensed, Prepares}
-use Rattle.links.proofs.Preparing.{put_prepared, put_prepares, put_refused}
+use Rattle.links.specs.declared.prepared.Plan.TheVariants as plan
+use Rattle.links.specs.Prepared.{planned}
+use Rattle.links.proofs.Preparing.{put_prepares, put_refused, room_prepares}
 use Rattle.links.proofs.recording.prepare_put.Goals as goal
 
-pub returns-in_ok-make_room-in-Ok-clause-prepared : goal.returns-in_ok-make_room-in-Ok-clause-prepared
-returns-in_ok-make_room-in-Ok-clause-prepared c =
+pub returns-in-Ok-clause-prepared : goal.returns-in-Ok-clause-prepared
+returns-in-Ok-clause-prepared c =
     let content = c.args.state.now.content in
-    let fits = subst (λ (k : Command). (put_prepared k c.in-Ok.ready ≡ prepared_of content (entry.Put k)) × Licensed content (entry.Put k)) c.in_ok-copy.ensures
-    (put_prepares content c.in_ok-copy.copy c.in-Ok.ready c.in-Ok.ensures.gives) in
-    (c.put_prepared.ensures ∙ fits.0, fits.1)
+    room_prepares content (entry.Put c.args.command) (planned (plan.Put c.in-Ok.ready)) c.with_room.result
+    (put_prepares content c.args.command c.in-Ok.ready c.in-Ok.ensures.command c.in-Ok.ensures.refused) c.with_room.ensures.prepared c.with_room.ensures.memory
 
-pub returns-in-Err-clause-prepared : goal.returns-in-Err-clause-prepared
-returns-in-Err-clause-prepared c =
+pub returns-in-Err-UnknownRole-clause-prepared : goal.returns-in-Err-UnknownRole-clause-prepared
+returns-in-Err-UnknownRole-clause-prepared c =
     let content = c.args.state.now.content in
-    subst (λ (k : Command). Prepares content (entry.Put k) (Err c.in-Err.fault)) c.in_ok-copy.ensures
-    (put_refused content c.in_ok-copy.copy c.in-Err.fault c.in-Err.ensures.gives)
+    put_refused content c.args.command UnknownRole
+    (subst (λ (f : PutFault). RefusesBy {X = Ready} (put_fault content.view c.args.command) (Err f)) c.in-Err-UnknownRole.field-0-is c.in-Err-UnknownRole.ensures.refused)
+
+pub returns-in-Err-Limit-clause-prepared : goal.returns-in-Err-Limit-clause-prepared
+returns-in-Err-Limit-clause-prepared c =
+    let content = c.args.state.now.content in
+    put_refused content c.args.command Limit
+    (subst (λ (f : PutFault). RefusesBy {X = Ready} (put_fault content.view c.args.command) (Err f)) c.in-Err-Limit.field-0-is c.in-Err-Limit.ensures.refused)

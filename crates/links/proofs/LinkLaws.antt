@@ -171,9 +171,9 @@ record Shown (provider : StartProvider) (token : List ℕ) (now : ℕ) : Type 0 
 shown_by : (provider : StartProvider) (token : List ℕ) (now : ℕ) (s : Source) → source_of provider token now ≡ Ok s → Shown provider token now
 unfolding source_of source_of_claims first_admission_fault
 shown_by provider token now s is =
-    let open = gave (opened provider.key token) _ s is in
-    let good = opened_well (first_jws_fault provider.key token) (payload_of token) open.0 open.1 in
-    let claimed = gave (claimed_by (claims_of open.0)) _ s open.2 in
+    let verified = gave (opened provider.key token) _ s is in
+    let good = opened_well (first_jws_fault provider.key token) (payload_of token) verified.0 verified.1 in
+    let claimed = gave (claimed_by (claims_of verified.0)) _ s verified.2 in
     let claims = claimed.0 in
     let who = gave (who_of_claims provider claims now) _ s claimed.2 in
     let rules = passed_rules (first_admission_fault provider claims now) _ who.0 who.1 in
@@ -181,7 +181,7 @@ shown_by provider token now s is =
     record {
       verified = good.0;
       claims = claims;
-      claimed = ap claims_of good.1 ∙ claimed_well (claims_of open.0) claims claimed.1;
+      claimed = ap claims_of good.1 ∙ claimed_well (claims_of verified.0) claims claimed.1;
       issuer = not_failing (bytes_eq claims.iss provider.issuer) (E18 Issuer) each.0;
       audience = not_failing (accepts provider claims.aud) (E18 NoAudience) each.1;
       live = timed (timing_of claims now) each.2;
