@@ -42,11 +42,7 @@ pub fn all_permissions(alloc: Global) -> Result<Items<ScopeWord>, AllocError>
 }
 
 /// The link that an exchange records, with its token, or the first rule that forbids it.
-pub(crate) fn issue(
-    alloc: Global,
-    state: &State,
-    exchange: &Exchange,
-) -> Result<Issued, ApplyFault>
+pub(crate) fn issue(alloc: Global, state: &State, exchange: &Exchange) -> Result<Issued, ApplyFault>
     requires { IsExchange exchange.now }
     ensures { Gives (λ issued. issued) result (issued_of state.now.content exchange.now) }
 {
@@ -54,11 +50,7 @@ pub(crate) fn issue(
     with_token(alloc, state, recorded)
 }
 
-fn with_token(
-    alloc: Global,
-    state: &State,
-    recorded: RecordedLink,
-) -> Result<Issued, ApplyFault>
+fn with_token(alloc: Global, state: &State, recorded: RecordedLink) -> Result<Issued, ApplyFault>
     ensures { Gives (λ issued. issued) result (issued_by state.now.content recorded) }
 {
     match sign_facts(alloc, state, &recorded.facts) {
@@ -102,11 +94,7 @@ fn unlicensed(rule: RuleCode) -> ApplyFault
 }
 
 // The link that an exchange would record.
-fn link_for(
-    alloc: Global,
-    state: &State,
-    exchange: &Exchange,
-) -> Result<RecordedLink, ApplyFault>
+fn link_for(alloc: Global, state: &State, exchange: &Exchange) -> Result<RecordedLink, ApplyFault>
     requires { IsExchange exchange.now }
     ensures { Gives (λ link. link) result (recorded_of state.now.content exchange.now) }
 {
@@ -131,13 +119,7 @@ fn link_from(
     ensures { Gives (λ link. link) result (Ok (recorded (federated_chain state.now.content exchange.now source))) }
 {
     match show(alloc, &source.who, exchange.scope.as_slice()) {
-        Ok(shown) => Ok(recorded_link(
-            alloc,
-            state.link_count(),
-            exchange.at,
-            shown,
-            source,
-        )),
+        Ok(shown) => Ok(recorded_link(alloc, state.link_count(), exchange.at, shown, source)),
         Err(AllocError) => {
             drop(source);
             Err(ApplyFault::Memory)
@@ -191,13 +173,7 @@ fn copy_words(alloc: Global, words: &[ScopeWord]) -> Result<Items<ScopeWord>, Al
 }
 
 #[tactic(auto, unfolding(crate::specs::Facts::facts_of))]
-fn recorded_link(
-    alloc: Global,
-    number: u32,
-    at: u64,
-    shown: Shown,
-    source: Source,
-) -> RecordedLink
+fn recorded_link(alloc: Global, number: u32, at: u64, shown: Shown, source: Source) -> RecordedLink
     requires moment { at ≤ 200_000_000_000 }
     requires sub { shown.sub ≡ name_of source.who }
     requires pools { shown.pools ≡ pools_in source.who }

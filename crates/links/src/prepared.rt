@@ -7,10 +7,7 @@ use std::marker::Model;
 #[derive(Debug, Drop)]
 pub(crate) enum Plan {
     Put(Ready),
-    Federated {
-        exchange: Exchange,
-        issued: Issued,
-    },
+    Federated { exchange: Exchange, issued: Issued },
 }
 
 /// A link with its token's payload and text.

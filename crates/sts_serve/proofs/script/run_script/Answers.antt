@@ -69,9 +69,12 @@ returns-in-End-clause-run g c = λ config journal stands.
     let more = c.in-End.ensures.more in
     let none_here : NoFrame c.frames.carry.unused = part_none (at_front c.unused.ensures c.in-Ok-Part.field-0-is c.in-Ok-Part.ensures) in
     let same : c.take_more.new.self ≡ c.frames.carry = more.2 in
-    let at = i.so_far config journal stands in
-    (at.0, at.1, ended _ _ _ _ _ _ _ c.take_more.new.self _ _ (kept _ _ _ _ _ _ _ _ c.frames.carry c.take_more.new.self _ at.2 more.1 same)
-    (subst (λ (k : Carried). k.taken ≤ input_limit) (sym same) i.within) (subst (λ (k : Carried). NoFrame k.unused) (sym same) none_here) more.0 c.at_end.ensures.done c.at_end.ensures.malformed)
+    let at = i.so_far config journal stands in (
+      at.0,
+      at.1,
+      ended _ _ _ _ _ _ _ c.take_more.new.self _ _ (kept _ _ _ _ _ _ _ _ c.frames.carry c.take_more.new.self _ at.2 more.1 same)
+          (subst (λ (k : Carried). k.taken ≤ input_limit) (sym same) i.within) (subst (λ (k : Carried). NoFrame k.unused) (sym same) none_here) more.0 c.at_end.ensures.done c.at_end.ensures.malformed,
+    )
 
 pub returns-in-Failed-clause-run : goal.returns-in-Failed-clause-run
 returns-in-Failed-clause-run g c = λ config journal stands.
@@ -88,9 +91,12 @@ returns-in-Limit-clause-run g c = λ config journal stands.
     let more = c.in-Limit.ensures.more in
     let none_here : NoFrame c.frames.carry.unused = part_none (at_front c.unused.ensures c.in-Ok-Part.field-0-is c.in-Ok-Part.ensures) in
     let at = i.so_far config journal stands in
-    let so_far = read_on _ _ _ _ _ _ _ _ c.frames.carry c.take_more.new.self (more.1.0 ∷ []) _ at.2 more.1.1.source more.1.1.unused more.1.1.taken in
-    (at.0, at.1, finished _ _ _ _ _ _ _ c.take_more.new.self _ _ so_far
-    (omega (arith, more.0, so_far.size, more.1.1.taken), refl, (c.frames.carry.unused, more.1.0, more.1.1.unused, none_here)))
+    let so_far = read_on _ _ _ _ _ _ _ _ c.frames.carry c.take_more.new.self (more.1.0 ∷ []) _ at.2 more.1.1.source more.1.1.unused more.1.1.taken in (
+      at.0,
+      at.1,
+      finished _ _ _ _ _ _ _ c.take_more.new.self _ _ so_far
+          (omega (arith, more.0, so_far.size, more.1.1.taken), refl, (c.frames.carry.unused, more.1.0, more.1.1.unused, none_here)),
+    )
 
 pub returns-in-Memory-clause-run : goal.returns-in-Memory-clause-run
 returns-in-Memory-clause-run g c = λ config journal stands.
