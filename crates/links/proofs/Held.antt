@@ -1,6 +1,7 @@
 -- What a state holds of its links stays right when a link comes.
-use Rattle.std.proofs.Common.{◌≡◌, ◌+◌, ◌<◌, ℕ, zero, suc, List, [], ◌∷◌, ◌++◌, length, map, refl, sym, ◌∙◌, ap, subst, arith, length-append, Option, None, Some}
-use Rattle.std.specs.Prelude.{Bool, ◌&&◌, nat_lt, slice_get, option_map}
+use Rattle.std.proofs.Common.{◌≡◌, ◌+◌, ◌<◌, ◌≤◌, ℕ, zero, suc, List, [], ◌∷◌, ◌++◌, length, map, refl, sym, ◌∙◌, ap, subst, arith, length-append, Option, None, Some}
+use Rattle.std.proofs.lemmas.Bool.Decides.{nat_tests}
+use Rattle.std.specs.Prelude.{Bool, true, false, ◌&&◌, nat_lt, slice_get, option_map}
 use Rattle.std.specs.List.{list_all}
 use Rattle.hmac_jws.specs.Compact.{compact}
 use Rattle.access_token.specs.declared.facts.Facts.{Facts}
@@ -132,3 +133,9 @@ pub kept_row : (rows : List RecordedLink) (n : ℕ) (row : RecordedLink) → Are
 kept_row rows n row are at =
     let held = are.each n row at in
     ap (option_map recorded) held.there ∙ ap (λ (r : RecordedLink). Some r) (sym held.is)
+
+pub less : (n k : ℕ) → n < k → nat_lt n k ≡ true
+less n k h = grind (arith, nat_tests)
+
+pub not_less : (n k : ℕ) → k ≤ n → nat_lt n k ≡ false
+not_less n k h = grind (arith, nat_tests)

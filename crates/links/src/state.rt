@@ -157,7 +157,8 @@ impl State {
         requires { number < length self.now.content.links }
         ensures { option_map recorded_of (chain self.now.content number) ≡ Some result.now }
     {
-        &self.links[number as usize]
+        let links = self.links.as_slice();
+        &links[number as usize]
     }
 
     // Takes room for an entry more.

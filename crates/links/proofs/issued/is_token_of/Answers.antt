@@ -18,8 +18,8 @@ returns-then-number-link_count c =
     let past : length content.links ≤ c.args.number = omega arith in
     sym (ap (λ (o : Option Chain). is_text_of content c.args.text.now o) (chain-missing content c.args.number (slice_get_past content.links c.args.number past)))
 
-pub returns-in_ok-token : goal.returns-in_ok-token
-returns-in_ok-token c =
+pub returns : goal.returns
+returns c =
     let content = c.args.state.now.content in
     let same : c.eq.result ≡ bytes_eq c.in_ok-token.token c.args.text.now = search rules in
     same ∙ by_token content c.args.text.now c.in_ok-token.token (chain content c.args.number) c.in_ok-token.ensures
