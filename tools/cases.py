@@ -303,7 +303,8 @@ check('G3', access(iss=ISSUER + 'x'))
 check('G3', access(more=1))
 check('G3', access(iat=None))
 check('G3', access(scope='other'))
-check('G3', access(sub=f'principal://{PATH}/subject/x'))
+check('allowed', access(sub=f'principal://{PATH}/subject/x'))
+check('G3', access(sub=f'principalSet://{PATH}/*'))
 check('G3', access(wif={'bounds': [[]]}))
 check('G3', access(wif={'scopes': []}))
 check('allowed', access(wif={'pools': []}))
@@ -392,7 +393,7 @@ edits(of_account(), [
     ('G3', ',"wif":{"accounts":[],"bounds":[],"pools":[],"scopes":["read"],"who":{"account":"a@p.iam.gserviceaccount.com"}}', ''),  # no wif
     ('G3', '7","scope', '7","kid":"k","scope'),  # a member more
     ('G3', 'who":{"account', 'who":{"aaa":1,"account'),  # a member more inside who
-    ('G3', 'serviceAccount:a', 'serviceAccount:b'),  # a name of another subject
+    ('G7 0', 'serviceAccount:a', 'serviceAccount:b'),  # a name of another subject
     ('G7 0', '9', '9007199254740991'),  # exp 2^53 - 1
     ('G3', '9', '9007199254740992'),  # exp 2^53
     ('G7 0', '3', '9007199254740991'),  # iat 2^53 - 1

@@ -335,7 +335,7 @@ class Service:
                 and all(has_form(account, 'account') for account in wif['accounts']) and wif['bounds'] == []
                 and all(has_form(pool, 'pool name') for pool in wif['pools'])
                 and wif['scopes'] != [] and all(has_form(words, 'scopes') for words in wif['scopes']) and facts['scope'] == wif['scopes'][-1]
-                and facts['sub'] == name_of(wif['who'])
+                and is_principal(facts['sub']) and name_of(wif['who']) is not None
                 and are_actors(facts, 'act', is_principal) and are_actors(facts, 'may_act', is_actor))
 
     def grants(self, who, permission, resource):
