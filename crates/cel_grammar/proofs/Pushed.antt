@@ -1,17 +1,9 @@
 -- The stack with one more frame.
 use Rattle.std.proofs.Common.{◌≡◌, ℕ, ◌≤◌, ◌<◌, ◌+◌, Option, Some, None, length-append, MatchOption, List, [], ◌∷◌, ◌++◌, length, refl, sym, ap, ◌∙◌, subst, arith}
-use Rattle.std.proofs.Common.{Result, Ok, Err, IfOk}
-use Rattle.std.specs.declared.alloc.AllocError.{AllocError}
-use Rattle.cel_grammar.specs.declared.frames.Place.{Place}
-use Rattle.cel_grammar.specs.Machine.{same, all, all_closer, after, closed_by}
-use Rattle.cel_grammar.specs.Places.{next_of}
-use Rattle.cel_tokens.specs.declared.token.Bracket.{Bracket}
 use Rattle.cel_grammar.specs.declared.draft.Draft.{Draft}
 use Rattle.cel_grammar.specs.declared.frames.Pending.{Pending}
-use Rattle.cel_grammar.specs.declared.frames.Many.{Many}
 use Rattle.cel_grammar.specs.declared.frames.Frame.{Frame}
-use Rattle.cel_grammar.specs.declared.frames.Frame.TheVariants.{Waiting, Several}
-use Rattle.cel_grammar.specs.declared.frames.Last.{Last}
+use Rattle.cel_grammar.specs.declared.frames.Frame.TheVariants.{Waiting}
 use Rattle.cel_grammar.specs.Machine.{level_of, join, reduce}
 use Rattle.cel_grammar.specs.Places.{onto, stack_of}
 use Rattle.cel_grammar.specs.Due.{IsTop, Stays, IsTaken}

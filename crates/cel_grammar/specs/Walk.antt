@@ -1,12 +1,11 @@
 -- The first fault of a list of tokens, as a walk.
-use Rattle.std.specs.Prelude.{◌≡◌, ℕ, zero, suc, ◌+◌, ◌^◌, List, [], ◌∷◌, ◌++◌, Bool, true, false, Option, Some, None, if◌then◌else◌, nat_le}
+use Rattle.std.specs.Prelude.{ℕ, ◌+◌, ◌^◌, List, [], ◌∷◌, Bool, true, false, Option, Some, None, if◌then◌else◌, nat_le}
 use Rattle.cel_tokens.specs.declared.token.Bracket.TheVariants.{Square}
 use Rattle.cel_tokens.specs.declared.token.Token.{Token}
 use Rattle.cel_grammar.specs.declared.draft.Draft.{Draft}
-use Rattle.cel_grammar.specs.Grammar.{TokensSpell, CanBegin}
 use Rattle.cel_grammar.specs.Machine.{State, operand, step, ended}
 use Rattle.cel_grammar.specs.declared.error.SyntaxRule.{SyntaxRule}
-use Rattle.cel_grammar.specs.Faults.{open_after, Breaks, head}
+use Rattle.cel_grammar.specs.Faults.{open_after, head}
 
 -- a tree, the number of the first token that breaks a rule, or an end too early
 pub data Verdict : Type 0 where

@@ -1,5 +1,5 @@
 -- A word is a text exactly where it is written as one.
-use Rattle.std.proofs.Common.{◌≡◌, ◌≢◌, ℕ, ◌+◌, ◌*◌, ◌^◌, ◌<◌, ◌≤◌, Bool, true, false, cond, ◌&&◌, ◌||◌, List, [], ◌∷◌, ◌++◌, length, get_or, take, drop, Option, Some, None, inl, inr, ◌⊎◌, refl, sym, ap, ◌∙◌, subst, arith, nat_eq, append_assoc, append-nil, length-append, encode_utf8, codes, IsUtf8}
+use Rattle.std.proofs.Common.{◌≡◌, ℕ, ◌+◌, ◌<◌, Bool, true, false, cond, ◌&&◌, ◌||◌, List, [], ◌∷◌, ◌++◌, length, get_or, Option, Some, None, inl, inr, ◌⊎◌, refl, sym, ap, ◌∙◌, subst, arith, nat_eq, append_assoc, append-nil, length-append, encode_utf8, codes, IsUtf8}
 use Rattle.std.specs.Bool.{⊤}
 use Rattle.std.specs.Char.{IsScalar}
 use Rattle.std.specs.List.{flat_map, AllByRecursion}
@@ -7,7 +7,7 @@ use Rattle.std.specs.Str.{bytes_eq}
 use Rattle.std.specs.Str.Lossy.{utf8_lossy}
 use Rattle.std.proofs.Math.Seq.{take-append_seam, drop-append-add, get_or-append_seam}
 use Rattle.std.proofs.lemmas.Bool.Decides.{nat_tests}
-use Rattle.std.proofs.lemmas.Str.{IsUtf8-take, IsUtf8-drop, IsUtf8-append, IsUtf8-encode, IsUtf8-nil, IsCharBoundary-before_ascii, IsCharBoundary-after_ascii, encode_ascii, utf8_lossy-IsUtf8}
+use Rattle.std.proofs.lemmas.Str.{IsUtf8-take, IsUtf8-drop, IsUtf8-append, IsUtf8-encode, IsCharBoundary-before_ascii, IsCharBoundary-after_ascii, encode_ascii, utf8_lossy-IsUtf8}
 use Rattle.cel_values.specs.declared.expr.BinaryOp.TheVariants.{Or, And, Lt, Le, Gt, Ge, Eq, Ne, Within, Add, Mul, Rem}
 use Rattle.cel_tokens.specs.declared.token.Bracket.TheVariants.{Round, Square, Curly}
 use Rattle.cel_tokens.specs.declared.token.Literal.{Literal}
@@ -16,13 +16,13 @@ use Rattle.cel_tokens.specs.declared.token.Piece.{Piece}
 use Rattle.cel_tokens.specs.declared.token.Lexeme.{Lexeme}
 use Rattle.cel_tokens.specs.declared.quoted.Mode.{Mode}
 use Rattle.cel_tokens.specs.declared.quoted.TextKind.{TextKind}
-use Rattle.cel_tokens.specs.Words.{IsFirstWord, form, within, is_letter, is_digit, is_name_byte, is_quote, is_blank, is_hex, all_bytes, next_move, between, word_token, decimal_token, hex_token, one_sign, two_sign, bracket_sign, mark_sign, is_reserved, is_in_line, closed_at, closed, raw_form, hex_form, letter_form, digit_form, quote_form, sign_form, slash_form, blank_form, as_piece, hex_value}
+use Rattle.cel_tokens.specs.Words.{form, within, is_letter, is_digit, is_name_byte, is_quote, is_blank, is_hex, all_bytes, next_move, between, word_token, decimal_token, hex_token, one_sign, two_sign, bracket_sign, mark_sign, is_reserved, is_in_line, closed_at, closed, raw_form, hex_form, letter_form, digit_form, quote_form, sign_form, slash_form, blank_form, as_piece, hex_value}
 use Rattle.cel_tokens.specs.Lexing.{Lexes, ended, stopped, blank, token}
-use Rattle.cel_tokens.specs.QuotedText.{Escape, backslash, single_quote, double_quote, line_feed, carriage_return, tab, escape_letter, escape_value, TextPiece, point_value, IsOrdinary, MayStand, written, denoted, IsQuoted, IsRaw, IsTextWord, StandsAt, IsAsWritten}
+use Rattle.cel_tokens.specs.QuotedText.{Escape, backslash, single_quote, double_quote, line_feed, carriage_return, tab, escape_letter, escape_value, TextPiece, point_value, MayStand, written, denoted, IsTextWord, StandsAt, IsAsWritten}
 use Rattle.cel_tokens.proofs.Fronts.{either, and_parts}
 use Rattle.cel_tokens.proofs.Longest.{eq_from}
 use Rattle.cel_tokens.proofs.Spelled.{name_or_reserved}
-use Rattle.cel_tokens.proofs.Pieces.{Pieces, read_in_pieces, pieces_read, RawBytes, read_raw, raw_read}
+use Rattle.cel_tokens.proofs.Pieces.{read_in_pieces, pieces_read, read_raw, raw_read}
 
 -- ---- each word that is read as a text is written as one
 

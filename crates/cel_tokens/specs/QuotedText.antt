@@ -1,5 +1,5 @@
 -- Texts as they are written: what may stand between the quotes, piece by piece, and what the pieces stand for.
-use Rattle.std.specs.Prelude.{◌≡◌, ◌≢◌, ℕ, List, [], ◌∷◌, ◌++◌, length, Bool, true, false, encode_utf8, ⊤, ◌⊎◌}
+use Rattle.std.specs.Prelude.{◌≡◌, ◌≢◌, ℕ, List, [], ◌∷◌, ◌++◌, length, true, false, encode_utf8, ⊤, ◌⊎◌}
 use Rattle.std.specs.List.{flat_map, AllByRecursion}
 use Rattle.cel_tokens.specs.declared.token.Literal.{Literal}
 use Rattle.cel_tokens.specs.declared.token.Token.{Token}

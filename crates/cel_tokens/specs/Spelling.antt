@@ -1,11 +1,7 @@
 -- How tokens are spelled.
-use Rattle.std.specs.Prelude.{◌≡◌, ℕ, ◌^◌, ◌<◌, List, [], ◌∷◌, ◌++◌, Bool, true, false, not, ◌&&◌, ◌||◌, nat_eq, if◌then◌else◌, codes, IsUtf8, ⊤}
-use Rattle.std.specs.Str.{bytes_eq}
+use Rattle.std.specs.Prelude.{ℕ, List, [], ◌∷◌, ◌++◌, nat_eq, if◌then◌else◌, codes}
 use Rattle.cel_values.specs.declared.expr.BinaryOp.{BinaryOp}
 use Rattle.cel_values.specs.declared.expr.BinaryOp.TheVariants.{Or, And, Lt, Le, Gt, Ge, Eq, Ne, Within, Add, Sub, Mul, Div, Rem}
-use Rattle.cel_tokens.specs.declared.token.Literal.{Literal}
-use Rattle.cel_tokens.specs.declared.token.Token.{Token}
-use Rattle.cel_tokens.specs.Words.{is_letter, is_name_byte, all_bytes, is_reserved}
 
 -- ---- texts
 
