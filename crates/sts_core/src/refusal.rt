@@ -25,11 +25,8 @@ fn word(rule: &RuleCode) -> &'static str
         RuleCode::E11 => "invalid_scope",
         RuleCode::E14 | RuleCode::E15 => "invalid_target",
         RuleCode::A4 | RuleCode::A6 => "invalid_argument",
-        RuleCode::E16(_)
-        | RuleCode::E17(_)
-        | RuleCode::E18(_)
-        | RuleCode::E19(_)
-        | RuleCode::E25 => "invalid_request",
+        RuleCode::E16(_) | RuleCode::E17(_) | RuleCode::E18(_) | RuleCode::E19(_) | RuleCode::E25 =>
+            "invalid_request",
     }
 }
 
