@@ -1,6 +1,6 @@
 -- The laws of checks, and of the journal that each step leaves.
 use Rattle.std.proofs.Common.{◌≡◌, ℕ, ◌≤◌, ◌^◌, ◌++◌, ◌∷◌, [], List, Bool, true, false, length, refl, sym, ap, ◌∙◌, subst}
-use Rattle.std.specs.Prelude.{◌↔◌, ⊤, ⊥, nat_lt, codes, IfSome, option_map, Option, None, Some, Result, Ok, Err, option_and_then, if◌then◌else◌}
+use Rattle.std.specs.Prelude.{◌↔◌, ⊤, nat_lt, codes, IfSome, option_map, Option, None, Some, Result, Ok, Err, option_and_then, if◌then◌else◌}
 use Rattle.base_types.specs.Rules.{first_failing}
 use Rattle.serde_json.specs.Data.{Data}
 use Rattle.hmac_jws.specs.Verified.{first_jws_fault, payload_of, MacGood}

@@ -26,7 +26,7 @@ pub(crate) fn check(
     request: &Request,
     now: u64,
 ) -> Result<Reply, AllocError>
-    ensures { IfOk result (λ reply. reply ≡ checking gate.now state.now.content request.now at) }
+    ensures { IfOk result (λ reply. reply ≡ checking gate.now state.now.content request.now now) }
 {
     if !is_bearer(gate, &request.bearer) {
         return no_bearer(alloc);

@@ -49,10 +49,13 @@ pub(crate) fn is_bearer(secret: &Text, bearer: &Option<Text>) -> bool
 fn tell(alloc: Global, state: &State, token: &str, now: u64) -> Result<Reply, AllocError>
     ensures { IfOk result (λ reply. reply ≡ told state.now.content now (issued_chain state.now.content token.now)) }
 {
-    match find_issued(alloc, state, token)? {
-        Some(number) if number < state.link_count() => tell_link(alloc, state, number, now),
-        _ => inactive(alloc),
+    let Some(number) = find_issued(alloc, state, token)? else {
+        return inactive(alloc);
+    };
+    if number >= state.link_count() {
+        return inactive(alloc);
     }
+    tell_link(alloc, state, number, now)
 }
 
 // What is told of the token of a link.

@@ -19,4 +19,4 @@ pub use laws::{
     gate_agrees_with_the_chain,
 };
 pub use reply::not_found;
-pub use sts::{Setup, Stop, Sts, setup};
+pub use sts::{Setup, Stop, Sts, set_up};

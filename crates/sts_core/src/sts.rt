@@ -52,7 +52,7 @@ impl<D: Disk> Sts<D> {
         ensures stands { IfOk result (λ sts. Stands sts config.now []) }
         ensures disk { IfOk result (λ sts. sts.disk ≡ disk) }
     {
-        match setup(alloc, config) {
+        match set_up(alloc, config) {
             Ok(setup) => Ok(Sts::resume(disk, setup)),
             Err(AllocError) => {
                 drop(disk);
@@ -165,7 +165,7 @@ pub struct Setup {
 }
 
 /// Sets up a configuration, before a disk is looked at.
-pub fn setup(alloc: Global, config: &Config) -> Result<Setup, AllocError>
+pub fn set_up(alloc: Global, config: &Config) -> Result<Setup, AllocError>
     requires formed { IsFormedConfig config.now }
     ensures { IfOk result (λ setup. IsSetUp setup config.now) }
 {

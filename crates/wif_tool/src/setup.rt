@@ -7,7 +7,7 @@ ghost use Rattle.wif_tool.specs.Status.{ConfigRead, Configured, NotConfigured};
 
 use service_config::{Config, ConfigError, read_service_config};
 use std::alloc::{AllocError, Global};
-use sts_core::{Setup, setup};
+use sts_core::{Setup, set_up};
 use wif_base::{Failed, Source};
 
 const CONFIG_LIMIT: usize = 65536;
@@ -28,7 +28,7 @@ pub(crate) fn read_setup<G: Source>(alloc: Global, source: &mut G) -> Result<Set
     ensures count { G.faults source.old ≤ G.faults source.new }
 {
     let config = read_config(alloc, source)?;
-    let found = setup(alloc, &config);
+    let found = set_up(alloc, &config);
     drop(config);
     match found {
         Ok(found) => Ok(found),
