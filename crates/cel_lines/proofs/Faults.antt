@@ -9,7 +9,8 @@ use Rattle.cel_grammar.specs.Faults.{SpellsDraft, IsFirstFault, rank}
 use Rattle.cel_syntax.specs.MacroFaults.{faults_of, first_macro_fault}
 use Rattle.cel_syntax.specs.declared.macro_faults.MacroFault.{MacroFault}
 use Rattle.cel_syntax.specs.Parse.{Spells, HasNoSyntaxFault, IsMacroFault, IsFirstSyntaxFault}
-use Rattle.cel_lines.specs.Answers.{Answers, AnswersAsked, AnswersExpression, AreAnswers, asked, syntax_line, tree_line}
+use Rattle.cel_lines.specs.Answers.{Answers, AnswersAsked, AnswersExpression, AreAnswers, Asked, asked, syntax_line, tree_lines}
+use Rattle.cel_eval.specs.Denotation.{Env}
 
 -- ---- one first fault
 
@@ -66,17 +67,17 @@ module _ (one_draft : (text : List ℕ) (a b : Draft) → SpellsDraft text a →
   not_both text tree rule at spells none (inr fault) =
       let same = sym fault.3 ∙ ap first_macro_fault (none.1 fault.1 fault.2) in cc same
 
-  to_expression : (expression a b : List ℕ) → AnswersExpression expression a → AnswersExpression expression b → a ≡ b
-  to_expression expression a b (inl tree) (inl tree') = tree.3 ∙ ap tree_line (one_tree expression tree.0 tree'.0 tree.1 tree'.1) ∙ sym tree'.3
-  to_expression expression a b (inl tree) (inr fault') = absurd (not_both expression tree.0 fault'.1 fault'.0 tree.1 tree.2 fault'.2)
-  to_expression expression a b (inr fault) (inl tree') = absurd (not_both expression tree'.0 fault.1 fault.0 tree'.1 tree'.2 fault.2)
-  to_expression expression a b (inr fault) (inr fault') =
+  to_expression : (expression : List ℕ) (env : Env) (a b : List ℕ) → AnswersExpression expression env a → AnswersExpression expression env b → a ≡ b
+  to_expression expression env a b (inl tree) (inl tree') = tree.3 ∙ ap (λ (t : Expr). tree_lines t env) (one_tree expression tree.0 tree'.0 tree.1 tree'.1) ∙ sym tree'.3
+  to_expression expression env a b (inl tree) (inr fault') = absurd (not_both expression tree.0 fault'.1 fault'.0 tree.1 tree.2 fault'.2)
+  to_expression expression env a b (inr fault) (inl tree') = absurd (not_both expression tree'.0 fault.1 fault.0 tree'.1 tree'.2 fault.2)
+  to_expression expression env a b (inr fault) (inr fault') =
       let same = one_fault expression fault.1 fault'.1 fault.0 fault'.0 fault.2 fault'.2 in
       fault.3 ∙ ap (λ (at : ℕ). syntax_line at fault.1) same.0 ∙ ap (λ (rule : SyntaxRule). syntax_line fault'.0 rule) same.1 ∙ sym fault'.3
 
-  to_asked : (asked : Option (List ℕ)) (a b : List ℕ) → AnswersAsked asked a → AnswersAsked asked b → a ≡ b
+  to_asked : (asked : Option Asked) (a b : List ℕ) → AnswersAsked asked a → AnswersAsked asked b → a ≡ b
   to_asked None a b is is' = is ∙ sym is'
-  to_asked (Some expression) a b is is' = to_expression expression a b is is'
+  to_asked (Some ask) a b is is' = to_expression ask.expression ask.env a b is is'
 
   pub one_answer : (line text other : List ℕ) → Answers line text → Answers line other → text ≡ other
   one_answer line text other is is' = to_asked (asked line) text other is is'

@@ -1,3 +1,4 @@
+pub mod Entries
 mod Faults
 pub mod Lines
 mod Runs

@@ -3,11 +3,13 @@
 
 mod answer;
 mod end;
+mod environment;
 mod front;
 mod laws;
 mod run;
 #[cfg(test)]
 mod tests;
+mod value_text;
 
 pub use end::LinesEnd;
 pub use laws::one_output;

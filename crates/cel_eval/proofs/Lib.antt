@@ -1,0 +1,4 @@
+pub mod Decided
+pub mod Folded
+pub mod Layers
+pub mod Lookups

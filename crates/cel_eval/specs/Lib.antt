@@ -1,0 +1,4 @@
+pub mod Denotation
+pub mod Errors
+pub mod Laws
+pub mod Scopes
