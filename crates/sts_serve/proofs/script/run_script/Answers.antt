@@ -5,7 +5,7 @@ use Rattle.sts_serve.specs.Frames.{frame_text, NoFrame}
 use Rattle.sts_serve.specs.Found.{IsFound}
 use Rattle.sts_serve.specs.declared.frame.Found.{Found}
 use Rattle.sts_serve.specs.declared.frame.Found.TheVariants.{Whole, Part, Never}
-use Rattle.sts_serve.proofs.Runs.{answered_found, broken_found, read_on, kept, finished, ended, some_frame}
+use Rattle.sts_serve.proofs.Runs.{starts, answered_found, broken_found, read_on, kept, finished, ended, some_frame}
 use Rattle.sts_serve.proofs.script.run_script.Goals as goal
 
 part_none : {bytes : List ℕ} → IsFound bytes Part → NoFrame bytes
@@ -13,6 +13,26 @@ part_none is = is
 
 at_front : {buffer bytes : List ℕ} {found there : Found} → bytes ≡ buffer → found ≡ there → IsFound bytes found → IsFound buffer there
 at_front {buffer} {bytes} {found} {there} same is fits = subst (λ (b : List ℕ). IsFound b there) same (subst (λ (f : Found). IsFound bytes f) is fits)
+
+pub frames-init : goal.frames-init
+frames-init g c = record {
+  so_far = λ config journal stands. (journal, stands, starts _ _ _ _ _ c.new-carry.ensures.unused c.new-carry.ensures.taken);
+  disk = refl;
+  within = omega (arith, c.new-carry.ensures.taken);
+  place = omega (arith, ap length c.new-carry.ensures.unused, c.new-carry.ensures.taken);
+  source = omega arith;
+  sink = omega arith;
+  same_source = refl;
+  same_sink = refl;
+}
+
+-- what is used of the bytes read is a part of them
+pub overflow_add-used : goal.overflow_add-used
+overflow_add-used g c =
+    let i = c.frames.invariant in
+    let w = c.in-Ok-Whole in
+    let found : IsFound c.frames.carry.unused (Whole w.frame w.size) = at_front c.unused.ensures w.field-0-is w.ensures in
+    omega (arith, i.place, i.within, found.1, ap length found.2, length-append (frame_text w.frame) (drop w.size c.frames.carry.unused))
 
 pub returns-in-Err-answer_frame-clause-run : goal.returns-in-Err-answer_frame-clause-run
 returns-in-Err-answer_frame-clause-run g c = λ config journal stands.
@@ -41,6 +61,7 @@ frames-preserved-in-Ok-Whole g c =
           (went.0, went.1, answered_found _ _ _ _ _ _ _ _ _ c.frames.carry c.use_up.new.self _ w.size w.frame at.2 found c.use_up.ensures.unused c.use_up.ensures.taken went.2);
       disk = c.answer_frame.ensures.disk ∙ i.disk;
       within = omega (arith, i.within, c.use_up.ensures.taken);
+      place = omega (arith, i.place, found.1, ap length found.2, ap length c.use_up.ensures.unused, c.use_up.ensures.taken, length-append (frame_text w.frame) (drop w.size c.frames.carry.unused));
       source = i.source;
       sink = omega (arith, i.sink, c.answer_frame.ensures.count);
       same_source = i.same_source;
@@ -57,6 +78,7 @@ frames-preserved g c =
           (at.0, at.1, read_on _ _ _ _ _ _ _ _ c.frames.carry c.take_more.new.self more.0 _ at.2 more.1.source more.1.unused more.1.taken);
       disk = i.disk;
       within = more.3;
+      place = omega (arith, i.place, ap length more.1.unused, more.1.taken, length-append c.frames.carry.unused more.0);
       source = omega (arith, i.source, c.in-Some.ensures.count);
       sink = i.sink;
       same_source = c.in-Some.ensures.same ∙ i.same_source;

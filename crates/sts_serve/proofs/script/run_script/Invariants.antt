@@ -12,6 +12,7 @@ invariant-frames g l = record {
       × SoFar config journal now (g.I.Source.left l.fn.input) (g.I.Source.left l.input) (g.O.Sink.taken l.fn.output) (g.O.Sink.taken l.output) l.carry l.used;
   disk : l.sts.disk ≡ l.fn.sts.disk;
   within : l.carry.taken ≤ input_limit;
+  place : l.used + length l.carry.unused ≡ l.carry.taken;
   source : g.I.Source.faults l.fn.input ≤ g.I.Source.faults l.input;
   sink : g.O.Sink.faults l.fn.output ≤ g.O.Sink.faults l.output;
   same_source : g.I.Source.lender l.input ≡ g.I.Source.lender l.fn.input;
