@@ -15,6 +15,7 @@ use Rattle.service_config.specs.Configuration.{IsConfiguration, config_limit}
 use Rattle.sts_serve.specs.Frames.{IsFrame, script_text, frame_text, NoFrame, NeverFrame, ScriptSpells, reply_frames, answer}
 use Rattle.sts_serve.specs.Served.{EndsAs, ScriptRun}
 use Rattle.sts_serve.specs.declared.frame.Frame.{Frame}
+use Rattle.sts_core.specs.declared.sts.Stop.{Stop}
 use Rattle.sts_core.specs.declared.sts.Stop.TheVariants.{Memory}
 use Rattle.sts_serve.specs.declared.served.Served.{Served}
 use Rattle.sts_serve.specs.declared.served.Served.TheVariants.{Done, ReadFault, WriteFault, ClockFault, Malformed, InputLimit, Stopped}
@@ -187,6 +188,15 @@ module _ (config : Config) (before after : List Entry) (frames : List Frame) (le
       → status ≢ 3 → status ≢ 4 → (status ≡ 0) ⊎ (status ≡ 7)
   complete left taken' status told outcome three four =
       complete_by outcome.end outcome.replied taken' status (subst (λ l. ScriptRun config before after l left' taken outcome.replied outcome.end) told outcome.run) outcome.closes three four
+
+-- ---- the account of a run that ended so
+
+pub outcome_of : (config : Config) (after : List Entry) (left left' taken replied taken' : Option (List ℕ)) (status : ℕ) (end : Served)
+    → ScriptRun config [] after left left' taken replied end → Closes end replied taken' status → ScriptOutcome config [] after left left' taken taken' status
+outcome_of config after left left' taken replied taken' status end run closes = record { end = end; replied = replied; run = run; closes = closes }
+
+pub stopped_closes : (stop : Stop) (taken : Option (List ℕ)) → Closes (Stopped stop) taken taken 7
+stopped_closes Memory taken = (refl, refl)
 
 -- ---- a run that was not stopped before the input
 
