@@ -2,18 +2,16 @@
 use Rattle.std.proofs.Common.{◌≡◌, ◌≢◌, ◌≤◌, ◌<◌, ◌⊎◌, ◌+◌, ◌++◌, [], ◌∷◌, ℕ, List, length, inl, inr, ⊎_elim, refl, sym, ◌∙◌, ap, subst, arith, append_assoc, length-append}
 use Rattle.std.proofs.lemmas.List.{append-nil}
 use Rattle.std.specs.Prelude.{Option, None, Some}
-use Rattle.std.specs.List.{concat, AllByRecursion}
+use Rattle.std.specs.List.{AllByRecursion}
 use Rattle.std.specs.Io.KnownBytes.{Consumes, Appends, IsAtEnd}
-use Rattle.wif_base.specs.Causes.{Rose}
 use Rattle.wif_base.specs.Carried.{input_limit}
-use Rattle.wif_base.specs.Output.{IsProperPart}
 use Rattle.wif_base.proofs.Known.{appends-then}
 use Rattle.wif_base.proofs.Outputs.{all_written}
 use Rattle.service_config.specs.declared.config.Config.{Config}
 use Rattle.links.specs.declared.entry.Entry.{Entry}
 use Rattle.service_config.specs.Configuration.{IsConfiguration, config_limit}
-use Rattle.sts_serve.specs.Frames.{IsFrame, script_text, frame_text, NoFrame, NeverFrame, ScriptSpells, reply_frames, answer}
-use Rattle.sts_serve.specs.Served.{EndsAs, ScriptRun}
+use Rattle.sts_serve.specs.Frames.{IsFrame, script_text, frame_text, NoFrame, NeverFrame, ScriptSpells}
+use Rattle.sts_serve.specs.Served.{ScriptRun}
 use Rattle.sts_serve.specs.declared.frame.Frame.{Frame}
 use Rattle.sts_core.specs.declared.sts.Stop.{Stop}
 use Rattle.sts_core.specs.declared.sts.Stop.TheVariants.{Memory}
