@@ -1,3 +1,5 @@
+ghost use Rattle.service_config.specs.Formed.{IsFormedConfig};
+
 use crate::escapes::escaped;
 use crate::inputs::Inputs;
 use allow_policy::ScopeSet;
@@ -7,7 +9,7 @@ use service_view::Command;
 use std::alloc::{AllocError, Global};
 use sts_admin::{CommandFault, read_command};
 use sts_core::Sts;
-use sts_serve::run_script;
+use sts_serve::{Served, run_script};
 use wif_base::{MemDisk, MemSink, MemSource, Route, route_of};
 
 const CONFIG: &[u8] =
@@ -66,20 +68,29 @@ pub(crate) fn route(alloc: Global, inputs: &Inputs) -> Result<String, AllocError
     }
 }
 
-fn service(alloc: Global, config: &Config) -> Result<Sts<MemDisk>, AllocError> {
-    let disk = MemDisk::new(alloc, b"", 0, 0, Vec::new(alloc))?;
-    Sts::open(alloc, disk, config)
-}
-
 /// `script FRAMES`: how the run ends, and its output.
 pub(crate) fn script(alloc: Global, inputs: &Inputs) -> Result<String, AllocError> {
+    let mut input = MemSource::new(inputs.bytes(0).to_vec(alloc)?, Vec::new(alloc));
+    let mut output = MemSink::new(Vec::with_capacity(alloc, 65536)?, Vec::new(alloc));
     let Ok(config) = read_service_config(alloc, CONFIG) else {
         return "no configuration".to_owned(alloc);
     };
-    let mut sts = service(alloc, &config)?;
-    let mut input = MemSource::new(inputs.bytes(0).to_vec(alloc)?, Vec::new(alloc));
-    let mut output = MemSink::new(Vec::with_capacity(alloc, 65536)?, Vec::new(alloc));
-    let end = run_script(alloc, &mut sts, &mut input, &mut output);
+    let end = end_of(alloc, &config, &mut input, &mut output)?;
     let written = escaped(alloc, output.bytes.as_slice())?;
     format!(in alloc; "{end:?} {written}")
+}
+
+fn end_of(
+    alloc: Global,
+    config: &Config,
+    input: &mut MemSource,
+    output: &mut MemSink,
+) -> Result<Served, AllocError>
+    requires { IsFormedConfig config.now }
+{
+    let disk = MemDisk::new(alloc, b"", 0, 0, Vec::new(alloc))?;
+    let mut sts = Sts::open(alloc, disk, config)?;
+    let end = run_script(alloc, &mut sts, input, output);
+    drop(sts.close());
+    Ok(end)
 }
