@@ -7,7 +7,7 @@ use service_view::Command;
 use std::alloc::{AllocError, Global};
 use sts_admin::{CommandFault, read_command};
 use sts_core::Sts;
-use sts_serve::run_script;
+use sts_serve::{Found, read_frame, run_script};
 use wif_base::{MemDisk, MemSink, MemSource, Route, route_of};
 
 const CONFIG: &[u8] =
@@ -69,6 +69,15 @@ pub(crate) fn route(alloc: Global, inputs: &Inputs) -> Result<String, AllocError
 fn service(alloc: Global, config: &Config) -> Result<Sts<MemDisk>, AllocError> {
     let disk = MemDisk::new(alloc, b"", 0, 0, Vec::new(alloc))?;
     Sts::open(alloc, disk, config)
+}
+
+/// `frame BYTES`: the size of the frame at their front, or whether one can become of them.
+pub(crate) fn frame(alloc: Global, inputs: &Inputs) -> Result<String, AllocError> {
+    match read_frame(alloc, inputs.bytes(0))? {
+        Found::Whole(_, size) => format!(in alloc; "whole {size}"),
+        Found::Part => "part".to_owned(alloc),
+        Found::Never => "never".to_owned(alloc),
+    }
 }
 
 /// `script FRAMES`: how the run ends, and its output.
