@@ -9,7 +9,7 @@ use service_view::Command;
 use std::alloc::{AllocError, Global};
 use sts_admin::{CommandFault, read_command};
 use sts_core::Sts;
-use sts_serve::{Served, run_script};
+use sts_serve::{Found, Served, read_frame, run_script};
 use wif_base::{MemDisk, MemSink, MemSource, Route, route_of};
 
 const CONFIG: &[u8] =
@@ -65,6 +65,15 @@ pub(crate) fn route(alloc: Global, inputs: &Inputs) -> Result<String, AllocError
             format!(in alloc; "generate {account}")
         }
         None => "none".to_owned(alloc),
+    }
+}
+
+/// `frame BYTES`: the size of the frame at their front, or whether one can become of them.
+pub(crate) fn frame(alloc: Global, inputs: &Inputs) -> Result<String, AllocError> {
+    match read_frame(alloc, inputs.bytes(0))? {
+        Found::Whole(_, size) => format!(in alloc; "whole {size}"),
+        Found::Part => "part".to_owned(alloc),
+        Found::Never => "never".to_owned(alloc),
     }
 }
 

@@ -1,11 +1,11 @@
 -- The output fixes how many texts stand in it whole.
-use Rattle.std.proofs.Common.{◌≡◌, ◌≢◌, ◌≤◌, ◌<◌, ◌+◌, ℕ, zero, suc, List, [], ◌∷◌, ◌++◌, length, take, refl, sym, ◌∙◌, ap, arith, append_assoc, length-append, map}
+use Rattle.std.proofs.Common.{◌≡◌, ◌≤◌, ◌<◌, ℕ, zero, suc, List, [], ◌∷◌, ◌++◌, length, take, refl, sym, ◌∙◌, ap, arith, append_assoc, length-append}
 use Rattle.std.proofs.lemmas.List.{append_cancel_left}
-use Rattle.std.specs.Prelude.{Option, None, Some, slice_get}
+use Rattle.std.specs.Prelude.{slice_get}
 use Rattle.std.specs.List.{concat, AllByRecursion}
 use Rattle.wif_base.specs.Output.{IsPartOf, IsProperPart, OutputIs}
 use Rattle.wif_base.specs.declared.request.Reply.{Reply}
-use Rattle.sts_serve.specs.Frames.{reply_frames, reply_text}
+use Rattle.sts_serve.specs.Frames.{reply_frames}
 use Rattle.sts_serve.proofs.Replying.{some_text}
 
 -- a proper part is shorter

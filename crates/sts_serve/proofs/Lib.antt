@@ -1,5 +1,6 @@
 pub mod Cuts
 mod Counted
+mod Fronts
 mod Replying
 pub mod Runs
 mod Stages

@@ -1,7 +1,7 @@
 -- A run over a script, frame by frame.
 use Rattle.std.proofs.Common.{◌≡◌, ◌≢◌, ◌≤◌, ◌<◌, ◌+◌, ◌⊎◌, inl, inr, ⊎_elim, ℕ, suc, List, [], ◌∷◌, ◌++◌, length, take, drop, refl, sym, ◌∙◌, ap, subst, arith, append_assoc, length-append}
 use Rattle.std.proofs.lemmas.List.{append-nil, take_all, take_at}
-use Rattle.std.specs.Prelude.{Option, map}
+use Rattle.std.specs.Prelude.{Option}
 use Rattle.std.specs.List.{concat, AllByRecursion}
 use Rattle.std.specs.Fmt.{decimal}
 use Rattle.std.specs.Io.KnownBytes.{Keeps, Appends, Consumes, IsAtEnd}
@@ -9,7 +9,6 @@ use Rattle.wif_base.proofs.Known.{appends-nothing, appends-then, consumes-nothin
 use Rattle.wif_base.proofs.Outputs as outputs
 use Rattle.wif_base.specs.Carried.{Carried, input_limit}
 use Rattle.wif_base.specs.Output.{IsProperPart}
-use Rattle.wif_base.specs.declared.request.Reply.{Reply}
 use Rattle.service_config.specs.declared.config.Config.{Config}
 use Rattle.sts_core.specs.declared.sts.Stop.TheVariants.{Memory}
 use Rattle.links.specs.declared.entry.Entry.{Entry}

@@ -9,8 +9,8 @@ use Rattle.sts_serve.specs.declared.cut.Cut.TheVariants.{Word, Part, Never}
 abbrev pub IsCut : ℕ → ℕ → List ℕ → Cut → Type 0
 -- a word, the separator, and the rest
 IsCut separator longest bytes (Word word rest) = IsWord longest word.now × (bytes ≡ word.now ++ (separator ∷ rest.now))
--- no separator yet
-IsCut separator longest bytes Part = AllByRecursion IsVisible bytes
+-- no separator yet, and room for one
+IsCut separator longest bytes Part = (length bytes ≤ longest) × AllByRecursion IsVisible bytes
 -- no word, however the bytes go on
 IsCut separator longest bytes Never =
     (bytes ≢ []) × ((word rest more : List ℕ) → IsWord longest word → bytes ++ more ≡ word ++ (separator ∷ rest) → ⊥)

@@ -48,6 +48,13 @@ NoFrame bytes = (frame : Frame) (more : List ℕ) → IsFrame frame → bytes �
 abbrev pub NeverFrame : List ℕ → Type 0
 NeverFrame bytes = (more : List ℕ) → NoFrame (bytes ++ more)
 
+-- Some frame's text goes on from these bytes.
+pub record IsFront (bytes : List ℕ) : Type 0 where
+  pub frame : Frame
+  pub more : List ℕ
+  pub is : IsFrame frame
+  pub goes_on : frame_text frame ≡ bytes ++ more
+
 -- The bytes begin with these frames, and the rest follows.
 pub record ScriptBegins (bytes : List ℕ) (frames : List Frame) (rest : List ℕ) : Type 0 where
   pub whole : bytes ≡ script_text frames ++ rest

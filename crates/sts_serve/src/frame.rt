@@ -18,7 +18,7 @@ pub struct Frame {
 pub enum Found {
     /// A frame of so many bytes.
     Whole(Frame, usize),
-    /// The front of a frame, or nothing.
+    /// The front of a frame; no bytes are one too.
     Part,
     /// What never becomes a frame.
     Never,

@@ -1,6 +1,6 @@
 ghost use Rattle.std.specs.Prelude.{◌≡◌, IfOk, IfSome};
 ghost use Rattle.std.specs.List.{AllByRecursion};
-ghost use Rattle.sts_serve.specs.Found.{IsFound};
+ghost use Rattle.sts_serve.specs.Found.{IsFound, IsUnended};
 ghost use Rattle.sts_serve.specs.Frames.{IsVisible, IsWord, IsBearer, bearer_text};
 
 use crate::cut::{Cut, cut_word};
@@ -10,6 +10,10 @@ use base_types::{Bytes, Text};
 use std::alloc::{AllocError, Global};
 
 const NO_BEARER: &[u8] = b"-";
+
+const LAST_MOMENT: u64 = 200_000_000_000;
+
+const LONGEST_BODY: u64 = 65536;
 
 /// Reads the frame at the front of some bytes.
 pub fn read_frame(alloc: Global, bytes: &[u8]) -> Result<Found, AllocError>
@@ -27,18 +31,18 @@ pub fn read_frame(alloc: Global, bytes: &[u8]) -> Result<Found, AllocError>
     };
     let (moment, rest) = match cut_word(rest, b' ', 12) {
         Cut::Word(word, rest) => (word, rest),
-        Cut::Part => return Ok(Found::Part),
+        Cut::Part => return unended(alloc, rest, LAST_MOMENT),
         Cut::Never => return Ok(Found::Never),
     };
-    let Some(moment) = read_number(alloc, moment, 200_000_000_000)? else {
+    let Some(moment) = read_number(alloc, moment, LAST_MOMENT)? else {
         return Ok(Found::Never);
     };
     let (size, rest) = match cut_word(rest, b'\n', 5) {
         Cut::Word(word, rest) => (word, rest),
-        Cut::Part => return Ok(Found::Part),
+        Cut::Part => return unended(alloc, rest, LONGEST_BODY),
         Cut::Never => return Ok(Found::Never),
     };
-    let Some(size) = read_number(alloc, size, 65536)? else {
+    let Some(size) = read_number(alloc, size, LONGEST_BODY)? else {
         return Ok(Found::Never);
     };
     let size = size as usize;
@@ -51,6 +55,19 @@ pub fn read_frame(alloc: Global, bytes: &[u8]) -> Result<Found, AllocError>
     }
     let frame = frame_of(alloc, path, bearer, moment, body)?;
     Ok(Found::Whole(frame, bytes.len() - end.len() + 1))
+}
+
+// What digits at the end of the bytes are: each front of a number's digits is a number too.
+fn unended(alloc: Global, digits: &[u8], most: u64) -> Result<Found, AllocError>
+    ensures { IfOk result (IsUnended most digits.now) }
+{
+    if digits.is_empty() {
+        return Ok(Found::Part);
+    }
+    match read_number(alloc, digits, most)? {
+        Some(_) => Ok(Found::Part),
+        None => Ok(Found::Never),
+    }
 }
 
 fn frame_of(

@@ -1,4 +1,4 @@
-use Rattle.std.proofs.Common.{◌≡◌, ◌≢◌, ◌<◌, ◌⊎◌, get_or, inl, inr, length, arith}
+use Rattle.std.proofs.Common.{◌≡◌, ◌≢◌, ◌<◌, ◌⊎◌, get_or, inl, inr, arith}
 use Rattle.sts_serve.proofs.Words.{refused}
 use Rattle.sts_serve.proofs.cut.cut_word.Goals as goal
 use Rattle.sts_serve.proofs.cut.cut_word.Goals.{then-byte-lt33-via-then-byte-lt33, then-byte-lt33-via-else-byte-lt33+then-byte-gt126, then-byte-lt33-via-else-byte-lt33+else-byte-gt126+then-index-longest}

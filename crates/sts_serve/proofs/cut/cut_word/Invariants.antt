@@ -1,4 +1,4 @@
-use Rattle.std.proofs.Common.{◌≡◌, ◌≤◌, take}
+use Rattle.std.proofs.Common.{◌≤◌, take}
 use Rattle.std.specs.List.{AllByRecursion}
 use Rattle.sts_serve.specs.Frames.{IsVisible}
 use Rattle.sts_serve.proofs.cut.cut_word.Given as goal

@@ -1,4 +1,3 @@
-use Rattle.std.proofs.Common.{ℕ, List, arith}
 use Rattle.std.proofs.lemmas.Str.{IsUtf8-from_ascii}
 use Rattle.sts_serve.proofs.Words.{visible_ascii, ok_of}
 use Rattle.sts_serve.proofs.read.text_of.Goals as goal

@@ -1,4 +1,4 @@
-use Rattle.std.proofs.Common.{◌≡◌, ◌≢◌, ◌≤◌, ◌<◌, ◌+◌, ◌-◌, ◌*◌, ◌++◌, [], ◌∷◌, ℕ, List, length, drop, inl, inr, refl, sym, ◌∙◌, ap, subst, arith, length-drop, length-append}
+use Rattle.std.proofs.Common.{◌≡◌, ◌≤◌, ◌+◌, ◌++◌, [], ◌∷◌, ℕ, List, length, drop, inl, refl, sym, ◌∙◌, ap, subst, arith, length-append}
 use Rattle.std.proofs.lemmas.List.{append-nil}
 use Rattle.wif_base.specs.Carried.{Carried, input_limit}
 use Rattle.sts_serve.specs.Frames.{frame_text, NoFrame}
@@ -9,7 +9,7 @@ use Rattle.sts_serve.proofs.Runs.{starts, answered_found, broken_found, read_on,
 use Rattle.sts_serve.proofs.script.run_script.Goals as goal
 
 part_none : {bytes : List ℕ} → IsFound bytes Part → NoFrame bytes
-part_none is = is
+part_none is = is.0
 
 at_front : {buffer bytes : List ℕ} {found there : Found} → bytes ≡ buffer → found ≡ there → IsFound bytes found → IsFound buffer there
 at_front {buffer} {bytes} {found} {there} same is fits = subst (λ (b : List ℕ). IsFound b there) same (subst (λ (f : Found). IsFound bytes f) is fits)
