@@ -9,7 +9,9 @@ use Rattle.cel_values.specs.declared.error.EvalError.TheVariants as error
 use Rattle.cel_values.specs.declared.expr.Expr.{Expr}
 use Rattle.cel_builtins.specs.Outcomes.{Outcome}
 use Rattle.cel_eval.specs.Denotation.{Env, denotation}
+use Rattle.cel_types.specs.Typing.{checked}
 use Rattle.cel_lines.specs.Environment.{bindings_of}
+use Rattle.cel_lines.specs.TypeText.{declarations_of, type_line}
 use Rattle.cel_lines.specs.ValueText.{value_text}
 use Rattle.cel_grammar.specs.declared.error.SyntaxRule.{SyntaxRule}
 use Rattle.cel_grammar.specs.declared.error.SyntaxRule.TheVariants.{S1, S2, S3, S4, S5, S6, L1, L2}
@@ -44,6 +46,7 @@ asked line = option_and_then asked_of (document line)
 
 -- ---- what is answered
 
+-- the name of a syntax rule
 abbrev pub rule_name : SyntaxRule → List ℕ
 rule_name S1 = codes "S1"
 rule_name S2 = codes "S2"
@@ -70,23 +73,27 @@ abbrev pub outcome_line : Outcome → List ℕ
 outcome_line (Ok value) = codes "value " ++ value_text value
 outcome_line (Err error) = codes "error " ++ error_name error
 
--- the line of the tree, and that of its value
+-- the line of the tree, that of its type, where each name of the environment may be of any type, and that of its value
 abbrev pub tree_lines : Expr → Env → List ℕ
-tree_lines tree env = codes "tree " ++ (printed_text tree ++ (10 ∷ outcome_line (denotation tree env)))
+tree_lines tree env =
+    codes "tree " ++ (printed_text tree ++ (10 ∷ (type_line (checked (declarations_of env) tree) ++ (10 ∷ outcome_line (denotation tree env)))))
 
+-- the line of the first fault: its place and its rule
 abbrev pub syntax_line : ℕ → SyntaxRule → List ℕ
 syntax_line at rule = codes "syntax " ++ (decimal at ++ (32 ∷ rule_name rule))
 
--- the tree that the expression spells and its value in the environment, or its first fault
+-- the tree that the expression spells, its type and its value in the environment, or its first fault
 abbrev pub AnswersExpression : List ℕ → Env → List ℕ → Type 0
 AnswersExpression expression env text =
     ((tree : Expr) × Spells expression tree × HasNoSyntaxFault expression × (text ≡ tree_lines tree env))
     ⊎ ((at : ℕ) × (rule : SyntaxRule) × IsFirstSyntaxFault expression rule at × (text ≡ syntax_line at rule))
 
+-- the answer to what is asked, or that the line asks for nothing
 abbrev pub AnswersAsked : Option Asked → List ℕ → Type 0
 AnswersAsked None text = text ≡ codes "bad line"
 AnswersAsked (Some asked) text = AnswersExpression asked.expression asked.env text
 
+-- the text is the answer to the line
 abbrev pub Answers : List ℕ → List ℕ → Type 0
 Answers line text = AnswersAsked (asked line) text
 

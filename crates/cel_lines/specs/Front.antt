@@ -8,6 +8,7 @@ use Rattle.cel_lines.specs.declared.front.Front.TheVariants.{Line, Part, TooLong
 abbrev pub IsFeedAt : List ℕ → ℕ → Type 0
 IsFeedAt bytes size = HasNoFeed (take size bytes) × (bytes ≡ take size bytes ++ (10 ∷ drop (size + 1) bytes))
 
+-- what stands at the front: a line of this size, a part of one, or more bytes than a line has
 abbrev pub IsAtFront : List ℕ → Front → Type 0
 IsAtFront bytes (Line size) = IsFeedAt bytes size × (size ≤ longest)
 IsAtFront bytes Part = HasNoFeed bytes × (length bytes ≤ longest)

@@ -4,4 +4,5 @@ pub mod Front
 pub mod Last
 pub mod Lines
 pub mod Run
+pub mod TypeText
 pub mod ValueText

@@ -6,9 +6,11 @@ use Rattle.std.specs.List.{flat_map, AllByRecursion}
 abbrev pub longest : ℕ
 longest = 65536
 
+-- no byte is a line feed
 abbrev pub HasNoFeed : List ℕ → Type 0
 HasNoFeed bytes = AllByRecursion (λ byte. byte ≢ 10) bytes
 
+-- a line without its line feed
 abbrev pub IsLine : List ℕ → Type 0
 IsLine line = HasNoFeed line × (length line ≤ longest)
 

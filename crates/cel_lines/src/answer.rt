@@ -6,6 +6,7 @@ ghost use Rattle.cel_lines.specs.ValueText.{value_text};
 ghost use Rattle.cel_eval.specs.Denotation.{denotation};
 
 use crate::environment::environment_of;
+use crate::type_text::put_type_line;
 use crate::value_text::put_value;
 use base_types::Items;
 use cel_eval::eval;
@@ -97,6 +98,8 @@ fn tree_lines(alloc: Global, tree: &Expr, env: &Env) -> Result<String, AllocErro
     let printed = print(alloc, tree)?;
     let mut lines = "tree ".to_owned(alloc)?;
     lines.push_str(printed.as_str())?;
+    lines.push_str("\n")?;
+    put_type_line(alloc, &mut lines, tree, env.as_slice())?;
     lines.push_str("\n")?;
     put_outcome(alloc, &mut lines, tree, env)?;
     Ok(lines)

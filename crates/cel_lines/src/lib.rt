@@ -9,6 +9,7 @@ mod laws;
 mod run;
 #[cfg(test)]
 mod tests;
+mod type_text;
 mod value_text;
 
 pub use end::LinesEnd;
