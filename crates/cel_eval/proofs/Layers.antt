@@ -10,7 +10,7 @@ use Rattle.cel_values.specs.declared.value.Value.TheViews as made
 use Rattle.cel_builtins.specs.Outcomes.{◌>>=◌, in_order, weighed}
 use Rattle.cel_eval.specs.Denotation.{Env, Meaning, PairMeaning, meaning_step, pair_step, denotation, pair_denotation, each, put_pairs}
 
-map_same : {A B : Type 0} (f g : A → B) → ((x : A) → f x ≡ g x) → (xs : List A) → map f xs ≡ map g xs
+pub map_same : {A B : Type 0} (f g : A → B) → ((x : A) → f x ≡ g x) → (xs : List A) → map f xs ≡ map g xs
 map_same f g h [] = refl
 map_same f g h (x ∷ xs) = ap (λ y. y ∷ map f xs) (h x) ∙ ap (λ ys. g x ∷ ys) (map_same f g h xs)
 

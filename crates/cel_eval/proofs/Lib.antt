@@ -1,4 +1,5 @@
 pub mod Decided
 pub mod Folded
+pub mod FreeNames
 pub mod Layers
 pub mod Lookups

@@ -8,4 +8,4 @@ mod scope;
 
 pub use cel_values::{EvalError, EvalStop};
 pub use evaluator::eval;
-pub use laws::{errors_in_order, operands_decide};
+pub use laws::{errors_in_order, free_names_decide, operands_decide};
