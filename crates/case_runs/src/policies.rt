@@ -93,11 +93,7 @@ fn put_one_role(
     Ok(put_role(policies, role, permissions)?)
 }
 
-fn put_one_policy(
-    alloc: Global,
-    policies: &mut Policies,
-    inputs: &Inputs,
-) -> Result<(), Stopped> {
+fn put_one_policy(alloc: Global, policies: &mut Policies, inputs: &Inputs) -> Result<(), Stopped> {
     let binding = one_binding(alloc, inputs.text(2), inputs.text(3));
     let (resource, bindings) = both(resource_of(alloc, inputs.text(4)), binding)?;
     Ok(set(policies, resource, bindings)?)
