@@ -1,6 +1,6 @@
 """Types of expressions: a model of the type line that `sts cel` gives, by the rules of docs/FORMATS.md.
 
-usage: python3 tools/cel_types.py < LINES    the type line of each line, which is one that `sts cel` takes
+usage: python3 tools/cel_types.py < LINES    the type line of each line of `sts cel`, whose expression has no fault of the grammar
        python3 tools/cel_types.py --write    puts type lines into the cases of crates/case_runs and makes docs/FUNCTIONS.md
        python3 tools/cel_types.py --check    compares them instead, and looks for each example among the cases
        python3 tools/cel_types.py --table    prints docs/FUNCTIONS.md
@@ -322,9 +322,9 @@ def type_of(node, names):
 
 def macro_type(node, names):
     name, variable = node.word
-    span = type_of(node.children[0], names)
-    variables = {'list': part_of(span), 'map': 'string', 'dyn': 'dyn'}
-    of_variable = needed(node, variables.get(kind_of(span)))
+    over = type_of(node.children[0], names)
+    variables = {'list': part_of(over), 'map': 'string', 'dyn': 'dyn'}
+    of_variable = needed(node, variables.get(kind_of(over)))
     *tests, last = [type_of(child, {**names, variable: of_variable}) for child in node.children[1:]]
     if name != 'map':
         tests.append(last)
@@ -375,7 +375,8 @@ def cases():
     """The inputs of the cases, and their answers with the type lines that the model gives."""
     inputs = read('crates', 'case_runs', 'stdin').split('\n')
     answers = read('crates', 'case_runs', 'stdout').split('\n')
-    made = [with_types(line.partition('\t')[2], answer) if line.split('\t')[0] == 'lines' else answer for line, answer in zip(inputs, answers)]
+    made = [with_types(line.removeprefix('lines\t'), answer) if line.startswith('lines\t') else answer
+            for line, answer in zip(inputs, answers, strict=True)]
     return inputs, '\n'.join(made)
 
 
