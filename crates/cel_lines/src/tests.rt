@@ -55,10 +55,10 @@ fn a_source_may_fail_in_the_middle_of_a_line(rt: HostRuntime) -> Result<(), Fail
     for (failing, wanted) in [
         (0, ""),
         (12, ""),
-        (13, "tree a\nerror Unbound\n"),
-        (20, "tree a\nerror Unbound\n"),
-        (25, "tree a\nerror Unbound\n"),
-        (26, "tree a\nerror Unbound\ntree b\nerror Unbound\n"),
+        (13, "tree a\ntype fault 0 T1\nerror Unbound\n"),
+        (20, "tree a\ntype fault 0 T1\nerror Unbound\n"),
+        (25, "tree a\ntype fault 0 T1\nerror Unbound\n"),
+        (26, "tree a\ntype fault 0 T1\nerror Unbound\ntree b\ntype fault 0 T1\nerror Unbound\n"),
     ] {
         let ran = run_slowly(alloc, input, failing)?;
         assert_eq!(rt; ran.end, LinesEnd::ReadFault, "{failing}");
@@ -70,7 +70,7 @@ fn a_source_may_fail_in_the_middle_of_a_line(rt: HostRuntime) -> Result<(), Fail
 #[test]
 fn a_sink_may_fail_within_an_answer(rt: HostRuntime) -> Result<(), Fail> {
     let alloc = rt.alloc();
-    let wanted = "tree a\nerror Unbound\nbad line\ntree b\nerror Unbound\n";
+    let wanted = "tree a\ntype fault 0 T1\nerror Unbound\nbad line\ntree b\ntype fault 0 T1\nerror Unbound\n";
     let input = b"{\"expr\":\"a\"}\n\n{\"expr\":\"b\"}";
     let long = around(alloc, "{\"expr\":\"a\"}\n\n", b'x', 65_537, "")?;
     for room in 0..wanted.len() {
@@ -79,7 +79,7 @@ fn a_sink_may_fail_within_an_answer(rt: HostRuntime) -> Result<(), Fail> {
         assert_eq!(rt; ran.end, LinesEnd::WriteFault, "{room}");
         assert!(rt; wanted.starts_with(ran.output.as_str()), "{room}");
     }
-    for (room, end) in [(29, LinesEnd::WriteFault), (30, LinesEnd::LineTooLong)] {
+    for (room, end) in [(45, LinesEnd::WriteFault), (46, LinesEnd::LineTooLong)] {
         let mut source = source_of(alloc, &long, ALWAYS)?;
         let ran = run_over(alloc, &mut source, room)?;
         assert_eq!(rt; ran.end, end, "{room}");

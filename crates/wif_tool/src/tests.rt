@@ -176,7 +176,7 @@ fn words_and_configuration_are_looked_at_first(rt: HostRuntime) -> Result<(), Fa
 fn lines_are_answered_by_the_word_cel(rt: HostRuntime) -> Result<(), Fail> {
     let alloc = rt.alloc();
     let lines = b"{\"expr\":\"(1+2)*3\"}\n{\"expr\":\"a b\"}\nx";
-    let answers = "tree (1 + 2) * 3\nvalue 9\nsyntax 2 S1\nbad line\n";
+    let answers = "tree (1 + 2) * 3\ntype int\nvalue 9\nsyntax 2 S1\nbad line\n";
     let long = around(alloc, "\n", b'x', 65_537, "")?;
     let config = Failing { config: 0, ..NEVER };
     let input = Failing { input: 1, ..NEVER };
@@ -184,7 +184,7 @@ fn lines_are_answered_by_the_word_cel(rt: HostRuntime) -> Result<(), Fail> {
     let cases: [(&[u8], Failing, u8, &str); 6] = [
         (lines, NEVER, 0, answers),
         (lines, config, 0, answers),
-        (lines, input, 3, "tree (1 + 2) * 3\nvalue 9\nsyntax 2 S1\n"),
+        (lines, input, 3, "tree (1 + 2) * 3\ntype int\nvalue 9\nsyntax 2 S1\n"),
         (lines, output, 4, ""),
         (&long, NEVER, 8, "bad line\n"),
         (b"", NEVER, 0, ""),
