@@ -69,7 +69,8 @@ ROWS = [
 ]
 TABLE_HEAD = """# Functions
 
-The overload table, which `tools/cel_types.py --table` prints. A call takes the rows of its name, style and number of arguments
+The overload table, which `tools/cel_types.py --table` prints; the case `overloads` of `crates/case_runs` compares its rows with the
+constant that the evaluator and the type checker read. A call takes the rows of its name, style and number of arguments
 that fit; where they differ in their result it is `dyn`. A member's first argument is what stands before the dot. `+` of lists
 joins the types of their items, `split` gives `list(string)`, and `join` takes a list whose items fit `string`. Each example is
 a case of `crates/case_runs`.
@@ -375,8 +376,7 @@ def cases():
     """The inputs of the cases, and their answers with the type lines that the model gives."""
     inputs = read('crates', 'case_runs', 'stdin').split('\n')
     answers = read('crates', 'case_runs', 'stdout').split('\n')
-    made = [with_types(line.removeprefix('lines\t'), answer) if line.startswith('lines\t') else answer
-            for line, answer in zip(inputs, answers, strict=True)]
+    made = [answer_of(line, answer) for line, answer in zip(inputs, answers, strict=True)]
     return inputs, '\n'.join(made)
 
 
@@ -384,6 +384,24 @@ def table():
     calls = {'operator': '`{}`', 'function': '`{}(..)`', 'member': '`t.{}(..)`'}
     rows = [(calls[style].format(name), kinds.replace(' ', ', '), result, f'`{example}`') for style, name, kinds, result, example in ROWS]
     return TABLE_HEAD + ''.join(f'| {" | ".join(row)} |\n' for row in rows)
+
+
+def overloads():
+    """The rows as the constant has them: 100 times the function's number, plus 10 times the first kind, plus the second, and the kind of the result."""
+    kinds = ['', 'null', 'bool', 'int', 'string', 'list', 'map', 'timestamp', 'duration']
+    numbers, made = {}, {}
+    for style, name, arguments, result, _ in ROWS:
+        first, second = (arguments.split() + [''])[:2]
+        number = numbers.setdefault('unary -' if style == 'operator' and name == '-' and not second else name, len(numbers) + 1)
+        made[100 * number + 10 * kinds.index(first) + kinds.index(second)] = kinds.index(result)
+    return 'rows' + ''.join(f' {key}:{kind}' for key, kind in made.items())
+
+
+def answer_of(line, answer):
+    """The answer of a case, where the model knows it."""
+    if line == 'overloads':
+        return overloads()
+    return with_types(line.removeprefix('lines\t'), answer) if line.startswith('lines\t') else answer
 
 
 def missing(inputs):

@@ -1,5 +1,6 @@
 use crate::escapes::escaped;
 use crate::inputs::Inputs;
+use cel_builtins::OVERLOADS;
 use cel_lines::run_lines;
 use cel_syntax::{ParseError, parse, print};
 use cel_tokens::lex;
@@ -39,4 +40,15 @@ pub(crate) fn lines(alloc: Global, inputs: &Inputs) -> Result<String, AllocError
     let end = run_lines(alloc, &mut input, &mut output);
     let written = escaped(alloc, output.bytes.as_slice())?;
     format!(in alloc; "{end:?} {written}")
+}
+
+/// `overloads`: the key and the kind of the result of each row of the overload table.
+pub(crate) fn overloads(alloc: Global) -> Result<String, AllocError> {
+    let mut text = "rows".to_owned(alloc)?;
+    for row in &OVERLOADS {
+        let key = row.0;
+        let kind = row.1;
+        text.push_str(format!(in alloc; " {key}:{kind}")?.as_str())?;
+    }
+    Ok(text)
 }

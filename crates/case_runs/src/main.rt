@@ -49,6 +49,7 @@ fn answer_of_names(alloc: Global, call: &str, inputs: &Inputs) -> Result<String,
         "tokens" => expressions::tokens(alloc, inputs),
         "tree" => expressions::tree(alloc, inputs),
         "lines" => expressions::lines(alloc, inputs),
+        "overloads" => expressions::overloads(alloc),
         _ => "no such call".to_owned(alloc),
     }
 }
