@@ -2,6 +2,8 @@
 # Lines a second and the peak of memory of `sts cel` over lines of some 60 bytes, and the time a token of texts of 32
 # and of 512 tokens, however they nest. Times are the processor's, so that other work on the machine counts little.
 # Where valgrind is there, it counts the instructions a token too, which caches and the C library's heap don't blur.
+# Last what evaluating a condition over claims of 2 kB takes, beside reading its line: two lines differ in a word alone, and
+# one of them evaluates the condition 30 times where the other doesn't.
 . "$(dirname "$0")/setup.sh"
 python3 - "$work" <<'END'
 import json, re, resource, shutil, subprocess, sys
@@ -22,8 +24,8 @@ def run(lines, times):
         sys.exit(f'status {status}')
     return used() - before
 
-def line(text):
-    return json.dumps({'expr': text}, separators=(',', ':')).encode() + b'\n'
+def line(text, **more):
+    return json.dumps({'expr': text, **more}, separators=(',', ':')).encode() + b'\n'
 
 print(f"{'lines':>10} {'bytes/line':>10} {'seconds':>10} {'lines/s':>10} {'peak-KiB':>10}")
 some = b''.join(line(text) for text in [
@@ -96,4 +98,34 @@ for name, text in shapes.items():
     if counted:
         row += ''.join(f' {instructions_a_token(text(tokens), tokens):16.0f}' for tokens in (32, 512))
     print(row, flush=True)
+
+# texts under the names of a provider's claims
+names = ('actor actor_id aud base_ref enterprise environment event_name exp head_ref iat iss job_workflow_ref jti nbf ref '
+    'ref_protected ref_type repository repository_id repository_owner repository_owner_id repository_visibility run_attempt '
+    'run_id run_number runner_environment sha sub workflow workflow_ref workflow_sha').split()
+claims = {name: 'x' * 54 for name in names} | {'ref': 'refs/heads/main', 'repository_owner': 'octo'}
+condition = 'assertion.repository_owner == "octo" && assertion.ref.startsWith("refs/heads/")'
+times = 30
+many = ' && '.join([condition] * times)
+
+def asked(first, text):
+    return line(f'{first} ? true : {text}', env={'assertion': claims})
+
+def costs(cost, count):
+    # of evaluating the condition once, and of reading a line with it and writing its answer
+    evaluated, passed = (cost(asked(first, many), count) for first in ('false', 'true'))
+    return (evaluated - passed) / (times * count), cost(asked('true', condition), count) / count
+
+def seconds_of(text, count):
+    return min(run(text, count) for _ in range(5)) - start
+
+evaluation, rest = costs(seconds_of, 20000)
+with open(work + '/output', 'rb') as answers:
+    if answers.read().count(b'\nvalue true\n') != 20000:
+        sys.exit('the condition does not hold')
+print(f'\n{condition}, over {len(json.dumps(claims, separators=(",", ":")))} bytes of claims')
+print(f'evaluated: {evaluation * 1e9:.0f} ns; its line read and answered: {rest * 1e9:.0f} ns')
+if counted:
+    evaluation, rest = costs(lambda text, count: instructions(text * count) - none, 50)
+    print(f'instructions: {evaluation:.0f}; {rest:.0f}')
 END

@@ -1,6 +1,5 @@
 -- What a map literal means.
-use Rattle.std.proofs.Common.{◌≡◌, Ok, List, [], ◌∷◌, map, refl, sym, ap, ◌∙◌}
-use Rattle.cel_values.specs.declared.expr.Expr.{Expr}
+use Rattle.std.proofs.Common.{◌≡◌, List, [], ◌∷◌, map, refl, sym, ap, ◌∙◌}
 use Rattle.cel_values.specs.declared.expr.Expr.TheViews as expr
 use Rattle.cel_values.specs.declared.expr.Expr.TheOpen.{Expr-F}
 use Rattle.cel_values.specs.declared.expr.Expr.TheFolds.{fold-roll-Expr, fold-roll-MapPair, fold-MapPair}

@@ -1,10 +1,9 @@
 -- What an expression means in an environment: a value or an error.
-use Rattle.std.specs.Prelude.{ℕ, ℤ, pos, negsuc, Bool, true, false, not, ◌&&◌, ◌||◌, nat_eq, nat_le, List, [], ◌∷◌, ◌++◌, map, length, slice_get, count_by, Option, None, Some, Result, Ok, Err, if◌then◌else◌}
+use Rattle.std.specs.Prelude.{ℕ, ℤ, pos, negsuc, Bool, true, false, not, ◌||◌, nat_eq, nat_le, List, [], ◌∷◌, ◌++◌, map, length, slice_get, count_by, Option, None, Some, Ok, Err, if◌then◌else◌}
 use Rattle.std.specs.Ordering.{nat_cmp, is_lt}
 use Rattle.std.specs.Cmp.Lexicographic.{slice_cmp}
 use Rattle.std.specs.Str.{bytes_eq}
 use Rattle.cel_values.specs.declared.env.Binding.{Binding}
-use Rattle.cel_values.specs.declared.error.EvalError.{EvalError}
 use Rattle.cel_values.specs.declared.error.EvalError.TheVariants.{NoOverload, NoKey, Index, BadText, TooLong, Unbound}
 use Rattle.cel_values.specs.declared.expr.BinaryOp.{BinaryOp}
 use Rattle.cel_values.specs.declared.expr.BinaryOp.TheVariants as the

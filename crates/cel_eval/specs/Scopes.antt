@@ -1,6 +1,5 @@
 -- The environment that a scope stands for: what macros bound, the last first, and then what was given.
-use Rattle.std.specs.Prelude.{List, [], ◌∷◌, ◌++◌, reverse}
-use Rattle.cel_values.specs.declared.env.Binding.{Binding}
+use Rattle.std.specs.Prelude.{◌++◌, reverse}
 use Rattle.cel_eval.specs.Denotation.{Env}
 use Rattle.cel_eval.specs.declared.scope.Scope.{Scope}
 

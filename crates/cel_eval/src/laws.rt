@@ -32,7 +32,8 @@ pub fn errors_in_order()
 /// of other names change nothing wherever they stand.
 pub fn free_names_decide()
     ensures agreeing { (e : Tree) (env other : Env) → Agree e env other → denotation e env ≡ denotation e other }
-    ensures behind { (e : Tree) (env more : Env) → ((name : List ℕ) → occurs_free name e ≡ true → IsSome (lookup name env)) → denotation e (env ++ more) ≡ denotation e env }
+    ensures behind { (e : Tree) (env more : Env) → ((name : List ℕ) → occurs_free name e ≡ true → IsSome (lookup name env))
+        → denotation e (env ++ more) ≡ denotation e env }
     ensures unused { (e : Tree) (front more env : Env) → AllByRecursion (λ b. occurs_free b.name e ≡ false) more
         → denotation e (front ++ (more ++ env)) ≡ denotation e (front ++ env) }
 {}
