@@ -66,7 +66,7 @@ pub fn join_all(mut types: Items<CelType>) -> CelType
 }
 
 /// The join of the types of a map literal's values.
-#[tactic(auto, using(crate::proofs::Joined::values_last, crate::proofs::Joined::values_end))]
+#[tactic(auto, using(crate::proofs::Joined::values_end))]
 pub fn join_values(mut pairs: Items<(CelType, CelType)>) -> CelType
     ensures { result ≡ join_of (map (λ p. p.1) pairs) }
 {
