@@ -2,7 +2,15 @@
 #![tactic(auto)]
 
 mod cel_type;
+mod checker;
+mod copying;
 mod fault;
+mod fitting;
+mod rows;
+mod rules;
+mod scope;
 
 pub use cel_type::{CelType, Declaration};
+pub use checker::check;
+pub use copying::copy_type;
 pub use fault::{CheckError, TypeFault, TypeRule};

@@ -1,0 +1,4 @@
+pub mod Declared
+pub mod Gathered
+pub mod Joined
+pub mod Pairs
