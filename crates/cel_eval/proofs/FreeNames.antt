@@ -111,7 +111,7 @@ macro_alike : (kind : MacroKind) (range : One) (n : List ℕ) (test : Option Mea
 macro_alike kind range n test p env other r t h =
     ap (λ o. o >>= λ v. range_of (out-Value v) >>= over kind n test p env) (range.1 env other r)
     ∙ bind_same (denotation range.0 other) (λ v. range_of (out-Value v) >>= over kind n test p env) (λ v. range_of (out-Value v) >>= over kind n test p other)
-      (λ v. bind_same (range_of (out-Value v)) (over kind n test p env) (over kind n test p other) (over_same kind n test p env other t h))
+    (λ v. bind_same (range_of (out-Value v)) (over kind n test p env) (over kind n test p other) (over_same kind n test p env other t h))
 
 depends_layer : (y : Expr-F One Pair) (env other : Env) → Alike (λ n. occurs_at n (parts y)) env other → means (parts y) env ≡ means (parts y) other
 depends_layer Expr-F.Null env other h = refl
@@ -144,8 +144,8 @@ depends_layer (Expr-F.Macro kind range n None p) env other h =
     (λ v. p.1 (with_item n v env) (with_item n v other) (alike_with n v (λ m. occurs_free m p.0) env other (alike_right _ _ env other h)))
 depends_layer (Expr-F.Macro kind range n (Some test) p) env other h =
     let inside : (v : Value) → Alike (λ m. occurs_free m test.0 || occurs_free m p.0) (with_item n v env) (with_item n v other)
-          = λ v. alike_with n v (λ m. occurs_free m test.0 || occurs_free m p.0) env other
-            (alike_right _ _ env other h) in
+    = λ v. alike_with n v (λ m. occurs_free m test.0 || occurs_free m p.0) env other
+    (alike_right _ _ env other h) in
     macro_alike kind range n (Some (denotation test.0)) (denotation p.0) env other
     (alike_left _ _ env other h)
     (λ v. test.1 (with_item n v env) (with_item n v other) (alike_left _ _ (with_item n v env) (with_item n v other) (inside v)))
