@@ -1,5 +1,5 @@
 -- A name is looked for among what was bound, the last first.
-use Rattle.std.proofs.Common.{◌≡◌, ◌+◌, ◌<◌, ◌++◌, ℕ, List, [], ◌∷◌, Some, cond, length, take, reverse, get_or, ap, sym, ◌∙◌, refl}
+use Rattle.std.proofs.Common.{◌≡◌, ◌+◌, ◌<◌, ◌++◌, ℕ, List, Some, cond, length, take, reverse, get_or}
 use Rattle.std.specs.Str.{bytes_eq}
 use Rattle.std.proofs.lemmas.List.{take_more, reverse-append}
 use Rattle.cel_types.specs.declared.cel_type.Declaration.{Declaration}

@@ -1,5 +1,5 @@
 -- What rows give, gathered one after another, is their common result.
-use Rattle.std.proofs.Common.{◌≡◌, ℕ, Bool, true, false, ◌&&◌, nat_eq, List, [], ◌∷◌, Option, None, Some, cond, if◌then◌else◌, refl, sym, ap, ◌∙◌}
+use Rattle.std.proofs.Common.{◌≡◌, ℕ, Bool, true, false, ◌&&◌, nat_eq, List, [], ◌∷◌, Option, None, Some, cond, if◌then◌else◌, refl, ap, ◌∙◌}
 use Rattle.cel_builtins.specs.declared.function.Function.{Function}
 use Rattle.cel_types.specs.declared.rows.Results.{Results}
 use Rattle.cel_types.specs.declared.cel_type.CelType.{CelType}

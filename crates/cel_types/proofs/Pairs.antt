@@ -1,8 +1,7 @@
 -- What is found of a pair of a map literal.
 use Rattle.std.proofs.Common.{◌≡◌, List, [], ◌∷◌, map, refl, sym, ap, ◌∙◌}
-use Rattle.cel_values.specs.declared.expr.Expr.{Expr}
 use Rattle.cel_values.specs.declared.expr.Expr.TheViews as expr
-use Rattle.cel_values.specs.declared.expr.Expr.TheOpen.{Expr-F, MapPair-F}
+use Rattle.cel_values.specs.declared.expr.Expr.TheOpen.{Expr-F}
 use Rattle.cel_values.specs.declared.expr.Expr.TheFolds.{fold-roll-Expr, fold-roll-MapPair, fold-MapPair}
 use Rattle.cel_values.specs.declared.expr.Expr.TheVariants.{rolls-Map}
 use Rattle.cel_values.specs.declared.expr.MapPair.{MapPair}

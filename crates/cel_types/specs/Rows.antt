@@ -1,5 +1,5 @@
 -- What the overload table says of types: the rows whose kinds fit, and their common result.
-use Rattle.std.specs.Prelude.{ℕ, ◌/◌, ◌%◌, nat_eq, Bool, true, false, not, ◌&&◌, List, [], ◌∷◌, Option, None, Some, if◌then◌else◌}
+use Rattle.std.specs.Prelude.{ℕ, ◌/◌, ◌%◌, nat_eq, Bool, true, not, ◌&&◌, List, [], ◌∷◌, Option, None, Some, if◌then◌else◌}
 use Rattle.cel_builtins.specs.declared.function.Function.{Function}
 use Rattle.cel_builtins.specs.declared.function.Function.TheVariants as the
 use Rattle.cel_builtins.specs.declared.overloads.TheConstants.{OVERLOADS}

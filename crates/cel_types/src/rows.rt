@@ -110,11 +110,7 @@ pub fn by_rows(
 }
 
 // `+` of two lists joins the types of their items.
-fn sum_type(
-    alloc: Global,
-    first: &CelType,
-    second: &CelType,
-) -> Result<Option<CelType>, AllocError>
+fn sum_type(alloc: Global, first: &CelType, second: &CelType) -> Result<Option<CelType>, AllocError>
     ensures { IfOk result (λ found. found ≡ sum_type_of (out-CelType first.now) (out-CelType second.now) (by_rows_of Operation.Add first.now (Some second.now))) }
 {
     match (first, second) {

@@ -181,12 +181,7 @@ pub fn operator_type(
 }
 
 /// The type of `?:`.
-pub fn choice_type(
-    node: usize,
-    r: &CelType,
-    t: CelType,
-    u: &CelType,
-) -> Result<CelType, CheckError>
+pub fn choice_type(node: usize, r: &CelType, t: CelType, u: &CelType) -> Result<CelType, CheckError>
     ensures { Gives result (type_of_choice node r.now t u.now) }
 {
     if !fits(r, &CelType::Bool) || !fits(&t, u) {

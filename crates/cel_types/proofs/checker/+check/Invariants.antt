@@ -1,4 +1,4 @@
-use Rattle.std.proofs.Common.{◌≡◌, ◌++◌, ◌+◌, drop, map, Ok, List}
+use Rattle.std.proofs.Common.{◌≡◌, ◌++◌, ◌+◌, drop, map, Ok}
 use Rattle.base_types.specs.Steps.{◌>>=◌}
 use Rattle.cel_types.specs.Scopes.{declarations_of}
 use Rattle.cel_types.specs.Typing.{typing, all_of, nodes_of}

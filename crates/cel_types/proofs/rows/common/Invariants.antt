@@ -1,6 +1,5 @@
 use Rattle.std.proofs.Common.{◌≡◌, drop}
 use Rattle.std.specs.Option.{option_copied}
-use Rattle.cel_types.specs.declared.rows.Results.{Results}
 use Rattle.cel_types.specs.Rows.{common, results_of}
 use Rattle.cel_types.proofs.Gathered.{gather_all, gathered_type}
 use Rattle.cel_types.proofs.rows.common.Given as goal
