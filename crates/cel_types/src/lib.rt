@@ -3,6 +3,8 @@
 
 mod cel_type;
 mod fault;
+mod laws;
 
 pub use cel_type::{CelType, Declaration};
 pub use fault::{CheckError, TypeFault, TypeRule};
+pub use laws::check_is_by_the_rules;

@@ -1,0 +1,4 @@
+pub mod Layers
+pub mod Answered
+pub mod Families
+pub mod Relation
