@@ -1,3 +1,4 @@
 pub mod Shapes
 pub mod Plain
 pub mod Same
+pub mod Table

@@ -1,5 +1,5 @@
 -- Values of a type, environments that suit declarations, and evaluations that run well.
-use Rattle.std.specs.Prelude.{◌≡◌, ℕ, ⊤, ⊥, Bool, true, false, ◌&&◌, List, [], ◌∷◌, Some, Ok, Err}
+use Rattle.std.specs.Prelude.{◌≡◌, ℕ, ⊤, Bool, true, false, ◌&&◌, List, [], ◌∷◌, Some, Ok, Err}
 use Rattle.cel_values.specs.declared.error.EvalError.{EvalError}
 use Rattle.cel_values.specs.declared.error.EvalError.TheVariants as error
 use Rattle.cel_values.specs.declared.value.Value.{Value, fold-Value}
