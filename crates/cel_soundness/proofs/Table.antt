@@ -101,7 +101,7 @@ joined_well separator texts (are_texts ts) = well_weighed (Value.Text (joined se
 -- ---- the rows that fit
 
 -- a row of the function that passes the tests of its second kind being there, of its first kind and of its second
-abbrev row_passes : Function → (ℕ → Bool) → (ℕ → Bool) → (ℕ → Bool) → ℕ → Bool
+abbrev pub row_passes : Function → (ℕ → Bool) → (ℕ → Bool) → (ℕ → Bool) → ℕ → Bool
 row_passes f there first second key = nat_eq (key / 100) (number f) && (there (key % 10) && (first ((key / 10) % 10) && second (key % 10)))
 
 abbrev pub passing : Function → (ℕ → Bool) → (ℕ → Bool) → (ℕ → Bool) → List (ℕ × ℕ) → List ℕ
