@@ -3,3 +3,5 @@ pub mod Plain
 pub mod Same
 pub mod Table
 pub mod Calls
+pub mod Denoted
+pub mod Steps
