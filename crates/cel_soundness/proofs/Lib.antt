@@ -5,3 +5,6 @@ pub mod Table
 pub mod Calls
 pub mod Denoted
 pub mod Steps
+pub mod Literals
+pub mod Macros
+pub mod Soundness

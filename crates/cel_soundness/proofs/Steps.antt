@@ -58,21 +58,21 @@ pub tested_well : (o : Outcome) → RunsWell CelType.Bool o → RunsTrue (tested
 tested_well (Ok v) h = bool_shape (out-Value v) (bool_layer v h)
 tested_well (Err e) h = h
 
-both_well : (a b : Or Bool) → RunsTrue a → RunsTrue b → RunsTrue (both a b)
+pub both_well : (a b : Or Bool) → RunsTrue a → RunsTrue b → RunsTrue (both a b)
 both_well (Ok false) b h g = tt
 both_well (Ok true) b h g = g
 both_well (Err e) (Ok false) h g = tt
 both_well (Err e) (Ok true) h g = h
 both_well (Err e) (Err d) h g = h
 
-either_well : (a b : Or Bool) → RunsTrue a → RunsTrue b → RunsTrue (either a b)
+pub either_well : (a b : Or Bool) → RunsTrue a → RunsTrue b → RunsTrue (either a b)
 either_well (Ok true) b h g = tt
 either_well (Ok false) b h g = g
 either_well (Err e) (Ok true) h g = tt
 either_well (Err e) (Ok false) h g = h
 either_well (Err e) (Err d) h g = h
 
-said_well : (a : Or Bool) → RunsTrue a → RunsWell CelType.Bool (said a)
+pub said_well : (a : Or Bool) → RunsTrue a → RunsWell CelType.Bool (said a)
 said_well (Ok b) h = bool_typed b
 said_well (Err e) h = h
 
