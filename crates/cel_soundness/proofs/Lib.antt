@@ -8,3 +8,5 @@ pub mod Steps
 pub mod Literals
 pub mod Macros
 pub mod Soundness
+pub mod Bound
+pub mod Names
