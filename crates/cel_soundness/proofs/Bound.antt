@@ -1,10 +1,8 @@
 -- What is computed of values names no unbound name.
-use Rattle.std.proofs.Common.{◌≡◌, ℕ, zero, suc, ℤ, pos, negsuc, neg_ℤ, ◌+ℤ◌, ◌-ℤ◌, ◌*ℤ◌, nat_eq, nat_le, Bool, true, false, not, ◌&&◌, ◌||◌, List, [], ◌∷◌, ◌++◌, map, length, Option, None, Some, Ok, Err, cond, refl, sym, ap, ◌∙◌, subst}
+use Rattle.std.proofs.Common.{ℕ, ℤ, pos, negsuc, neg_ℤ, ◌+ℤ◌, ◌-ℤ◌, ◌*ℤ◌, nat_eq, nat_le, Bool, true, false, not, ◌&&◌, ◌||◌, List, [], ◌∷◌, ◌++◌, map, length, Option, None, Some, Ok, Err, cond}
 use Rattle.std.specs.Prelude.{slice_get, count_by, int_div, int_rem, option_map}
-use Rattle.std.specs.Cmp.Lexicographic.{slice_cmp}
-use Rattle.std.specs.Ordering.{nat_cmp, int_eq, is_lt, is_le, is_gt, is_ge}
+use Rattle.std.specs.Ordering.{int_eq, is_lt, is_le, is_gt, is_ge}
 use Rattle.std.specs.declared.cmp.Ordering.{Ordering}
-use Rattle.std.specs.Str.{bytes_eq}
 use Rattle.cel_values.specs.declared.error.EvalError.{EvalError}
 use Rattle.cel_values.specs.declared.expr.BinaryOp.{BinaryOp}
 use Rattle.cel_values.specs.declared.expr.MacroKind.{MacroKind}
@@ -19,12 +17,12 @@ use Rattle.cel_builtins.specs.declared.function.Function.{Function}
 use Rattle.cel_builtins.specs.Functions.{applied, takes, of_one, of_two, where_fits}
 use Rattle.cel_builtins.specs.Outcomes.{Or, Outcome, Shape, ◌>>=◌, in_order, weighed}
 use Rattle.cel_builtins.specs.Overloads.{kind, row, function_of}
-use Rattle.cel_builtins.specs.Numbers.{is_integer, is_moment, is_span, integer, moment, span, quotient, remainder, sum_of, difference_of, product_of, quotient_of, remainder_of, opposite_of, inverse_of, order_of, related}
+use Rattle.cel_builtins.specs.Numbers.{is_integer, is_moment, is_span, integer, moment, span, sum_of, difference_of, product_of, quotient_of, remainder_of, order_of, related}
 use Rattle.cel_builtins.specs.Calendar.{part_of, full_year, month, day_of_month, day_of_year, date, day_of_week, hours, minutes, seconds_of_minute}
-use Rattle.cel_builtins.specs.Durations.{where_good, integer_value, span_value, signed, number_in, unsigned_text, parts_seconds, as_integer, as_text, as_span}
-use Rattle.cel_builtins.specs.Texts.{tested_part, contains, has_front, has_end, extracted, extracted_by, template_of, split_of, join_of, lowered, size_of, pieces, text_value, text_in, texts_in, joined, code_points}
-use Rattle.cel_builtins.specs.Timestamps.{is_moment_text, seconds_in, moment_text, as_moment}
-use Rattle.cel_eval.specs.Denotation.{Env, Meaning, with_item, entry_at, or_no_key, has_key, selected, presence, item_or, item_at, indexed, any_equal, lies_in, put_entry, put_pair, put_pairs, truth_of, truth, tested, said, both, either, unless_opaque, strict, logic, binary, binary_by, chosen, by_function, called, limited, key_of, range_of, all_of, some_of, kept, taken, gathered, list_of, test_of, tests, is_yes, kept_of, passes, taken_of, one_of, over}
+use Rattle.cel_builtins.specs.Durations.{where_good, integer_value, span_value, signed, number_in, unsigned_text, parts_seconds}
+use Rattle.cel_builtins.specs.Texts.{tested_part, contains, has_front, has_end, extracted, extracted_by, template_of, split_of, join_of, pieces, text_value, text_in, texts_in, joined, code_points}
+use Rattle.cel_builtins.specs.Timestamps.{is_moment_text, seconds_in, moment_text}
+use Rattle.cel_eval.specs.Denotation.{Env, Meaning, with_item, entry_at, or_no_key, has_key, selected, presence, item_or, item_at, indexed, lies_in, put_entry, put_pair, put_pairs, truth_of, truth, tested, said, both, either, unless_opaque, strict, logic, binary, binary_by, chosen, by_function, called, limited, key_of, range_of, all_of, some_of, kept, taken, gathered, list_of, test_of, tests, is_yes, kept_of, passes, taken_of, one_of, over}
 use Rattle.cel_eval.specs.declared.operators.Logic.{Logic}
 use Rattle.cel_soundness.specs.WellTyped.{IsNotUnbound, HasNoUnbound}
 
@@ -138,7 +136,7 @@ quotient_bound _ _ = tt
 remainder_bound : (x y : Shape) → IsBound (remainder_of x y)
 remainder_bound (Value-F.Int a) (Value-F.Int b) =
     bound_if (int_eq b (pos 0)) (Err EvalError.Divide) (cond (is_integer (int_div a b)) (Ok (Value.Int (int_rem a b))) (Err EvalError.Overflow)) tt
-        (bound_if (is_integer (int_div a b)) (Ok (Value.Int (int_rem a b))) (Err EvalError.Overflow) tt tt)
+    (bound_if (is_integer (int_div a b)) (Ok (Value.Int (int_rem a b))) (Err EvalError.Overflow) tt tt)
 remainder_bound _ _ = tt
 
 order_bound : (x y : Shape) → IsBound (order_of x y)
@@ -166,7 +164,8 @@ extracted_bound _ _ = tt
 
 split_bound : (x y : Shape) → IsBound (split_of x y)
 split_bound (Value-F.Text a) (Value-F.Text b) =
-    bound_if (nat_eq (length b) 0) (Err EvalError.BadText) (weighed (made.List (map text_value (pieces b a)))) tt (weighed_bound (made.List (map text_value (pieces b a))))
+    bound_if (nat_eq (length b) 0) (Err EvalError.BadText) (weighed (made.List (map text_value (pieces b a)))) tt
+    (weighed_bound (made.List (map text_value (pieces b a))))
 split_bound _ _ = tt
 
 text_bound : (x : Shape) → IsBound (text_in x)
@@ -175,8 +174,9 @@ text_bound _ = tt
 
 join_bound : (x y : Shape) → IsBound (join_of x y)
 join_bound (Value-F.List xs) (Value-F.Text b) =
-    bound_then (texts_in xs) (λ ts. weighed (Value.Text (joined b ts))) (in_order_bound (map (λ v. text_in (out-Value v)) xs) (each_bound (λ v. text_in (out-Value v)) xs (λ v. text_bound (out-Value v))))
-        (λ ts. weighed_bound (Value.Text (joined b ts)))
+    bound_then (texts_in xs) (λ ts. weighed (Value.Text (joined b ts)))
+    (in_order_bound (map (λ v. text_in (out-Value v)) xs) (each_bound (λ v. text_in (out-Value v)) xs (λ v. text_bound (out-Value v))))
+    (λ ts. weighed_bound (Value.Text (joined b ts)))
 join_bound _ _ = tt
 
 two_bound : (f : Function) (x y : Shape) → IsBound (of_two f x y)
@@ -204,10 +204,11 @@ where_bound (Some k) o h = h
 pub applied_bound : (f : Function) (vs : List Value) → IsBound (applied f vs)
 applied_bound f [] = tt
 applied_bound f (a ∷ []) =
-    bound_if (takes f a) (where_fits (row f (kind a) 0) (of_one f (out-Value a))) (Err EvalError.NoOverload) (where_bound (row f (kind a) 0) (of_one f (out-Value a)) (one_bound f (out-Value a))) tt
+    bound_if (takes f a) (where_fits (row f (kind a) 0) (of_one f (out-Value a))) (Err EvalError.NoOverload)
+    (where_bound (row f (kind a) 0) (of_one f (out-Value a)) (one_bound f (out-Value a))) tt
 applied_bound f (a ∷ b ∷ []) =
     bound_if (takes f a && takes f b) (where_fits (row f (kind a) (kind b)) (of_two f (out-Value a) (out-Value b))) (Err EvalError.NoOverload)
-        (where_bound (row f (kind a) (kind b)) (of_two f (out-Value a) (out-Value b)) (two_bound f (out-Value a) (out-Value b))) tt
+    (where_bound (row f (kind a) (kind b)) (of_two f (out-Value a) (out-Value b)) (two_bound f (out-Value a) (out-Value b))) tt
 applied_bound f (a ∷ b ∷ c ∷ vs) = tt
 
 function_bound : (f : Option Function) (vs : List Value) → IsBound (by_function f vs)
@@ -316,12 +317,13 @@ put_bound _ v es = tt
 
 pub pairs_bound : (es : List MapEntry) (qs : List (Value × Value)) → IsBound (put_pairs es qs)
 pairs_bound es [] = tt
-pairs_bound es (q ∷ qs) = bound_then (put_pair (out-Value q.0) q.1 es) (λ more. put_pairs more qs) (put_bound (out-Value q.0) q.1 es) (λ more. pairs_bound more qs)
+pairs_bound es (q ∷ qs) =
+    bound_then (put_pair (out-Value q.0) q.1 es) (λ more. put_pairs more qs) (put_bound (out-Value q.0) q.1 es) (λ more. pairs_bound more qs)
 
 pub map_bound : (r : Or (List (Value × Value))) → IsBound r → IsBound (r >>= λ qs. put_pairs [] qs >>= λ es. weighed (made.Map es))
 map_bound r h =
     bound_then r (λ qs. put_pairs [] qs >>= λ es. weighed (made.Map es)) h (λ qs.
-        bound_then (put_pairs [] qs) (λ es. weighed (made.Map es)) (pairs_bound [] qs) (λ es. weighed_bound (made.Map es)))
+    bound_then (put_pairs [] qs) (λ es. weighed (made.Map es)) (pairs_bound [] qs) (λ es. weighed_bound (made.Map es)))
 
 -- ---- macros
 
@@ -351,20 +353,22 @@ kept_bound v t h = bound_then t (λ b. Ok (cond b (v ∷ []) [])) h (λ b. tt)
 
 taken_bound : (t : Or Bool) (o : Outcome) → IsBound t → IsBound o → IsBound (taken t o)
 taken_bound t o h g =
-    bound_then t (λ b. cond b (o >>= λ v. Ok (v ∷ [])) (Ok [])) h (λ b. bound_if b (o >>= λ v. Ok (v ∷ [])) (Ok []) (bound_then o (λ v. Ok (v ∷ [])) g (λ v. tt)) tt)
+    bound_then t (λ b. cond b (o >>= λ v. Ok (v ∷ [])) (Ok [])) h
+    (λ b. bound_if b (o >>= λ v. Ok (v ∷ [])) (Ok []) (bound_then o (λ v. Ok (v ∷ [])) g (λ v. tt)) tt)
 
 pub over_bound : (kind : MacroKind) (n : List ℕ) (test : Option Meaning) (p : Meaning) (env : Env) (vs : List Value)
     → ((w : Value) → IsBound (tested (passes test (with_item n w env)))) → ((w : Value) → IsBound (p (with_item n w env))) → IsBound (over kind n test p env vs)
 over_bound MacroKind.All n test p env vs passing each =
     said_bound (all_of (tests n p env vs)) (all_bound (tests n p env vs) (each_bound (test_of n p env) vs (λ w. tested_bound (p (with_item n w env)) (each w))))
 over_bound MacroKind.Exists n test p env vs passing each =
-    said_bound (some_of (tests n p env vs)) (some_bound (tests n p env vs) (each_bound (test_of n p env) vs (λ w. tested_bound (p (with_item n w env)) (each w))))
+    said_bound (some_of (tests n p env vs)) (some_bound (tests n p env vs)
+    (each_bound (test_of n p env) vs (λ w. tested_bound (p (with_item n w env)) (each w))))
 over_bound MacroKind.ExistsOne n test p env vs passing each =
     said_bound (one_of (tests n p env vs)) (bound_then (in_order (tests n p env vs)) (λ bs. Ok (nat_eq (count_by is_yes bs) 1))
-        (in_order_bound (tests n p env vs) (each_bound (test_of n p env) vs (λ w. tested_bound (p (with_item n w env)) (each w)))) (λ bs. tt))
+    (in_order_bound (tests n p env vs) (each_bound (test_of n p env) vs (λ w. tested_bound (p (with_item n w env)) (each w)))) (λ bs. tt))
 over_bound MacroKind.Filter n test p env vs passing each =
     list_bound (gathered (map (kept_of n p env) vs)) (gathered_bound (map (kept_of n p env) vs) (each_bound (kept_of n p env) vs
-        (λ w. kept_bound w (tested (p (with_item n w env))) (tested_bound (p (with_item n w env)) (each w)))))
+    (λ w. kept_bound w (tested (p (with_item n w env))) (tested_bound (p (with_item n w env)) (each w)))))
 over_bound MacroKind.Map n test p env vs passing each =
     list_bound (gathered (map (taken_of n test p env) vs)) (gathered_bound (map (taken_of n test p env) vs) (each_bound (taken_of n test p env) vs
-        (λ w. taken_bound (tested (passes test (with_item n w env))) (p (with_item n w env)) (passing w) (each w))))
+    (λ w. taken_bound (tested (passes test (with_item n w env))) (p (with_item n w env)) (passing w) (each w))))

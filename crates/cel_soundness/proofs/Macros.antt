@@ -1,5 +1,5 @@
 -- Macros run well.
-use Rattle.std.proofs.Common.{◌≡◌, ℕ, nat_eq, nat_le, Bool, true, false, ◌&&◌, List, [], ◌∷◌, ◌++◌, map, length, Option, None, Some, Ok, Err, cond, refl, sym, ap, ◌∙◌, subst}
+use Rattle.std.proofs.Common.{◌≡◌, ℕ, nat_eq, nat_le, Bool, true, false, List, [], ◌∷◌, ◌++◌, map, length, Option, Some, Ok, Err, cond, refl, sym, ap, ◌∙◌}
 use Rattle.std.specs.Prelude.{count_by}
 use Rattle.std.specs.Str.{bytes_eq}
 use Rattle.cel_values.specs.declared.error.EvalError.{EvalError}
@@ -8,14 +8,13 @@ use Rattle.cel_values.specs.declared.value.Value.{Value, out-Value}
 use Rattle.cel_values.specs.declared.value.Value.TheOpen.{Value-F}
 use Rattle.cel_values.specs.declared.value.MapEntry.{MapEntry}
 use Rattle.cel_builtins.specs.Outcomes.{Or, Outcome, Shape, ◌>>=◌, in_order}
-use Rattle.cel_eval.specs.Denotation.{Env, Meaning, named, lookup, or_unbound, with_item, tested, said, both, either, limited, key_of, range_of, all_of, some_of, one_of, is_yes, kept, taken, gathered, list_of, test_of, tests, kept_of, passes, taken_of, over}
+use Rattle.cel_eval.specs.Denotation.{Env, Meaning, lookup, or_unbound, with_item, tested, limited, key_of, range_of, all_of, some_of, one_of, is_yes, kept, taken, gathered, test_of, tests, kept_of, passes, taken_of, over}
 use Rattle.cel_types.specs.declared.cel_type.CelType.{CelType}
 use Rattle.cel_types.specs.declared.cel_type.CelType.TheOpen.{CelType-F}
-use Rattle.cel_types.specs.declared.cel_type.CelType.TheViews as types
-use Rattle.cel_types.specs.Types.{plain, fits}
+use Rattle.cel_types.specs.Types.{plain}
 use Rattle.cel_types.specs.Rules.{Decls, declared, with_variable, Ranges, over_list, over_map, over_dyn, Gathers, by_all, by_exists, by_exists_one, by_filter, by_map}
 use Rattle.cel_soundness.specs.WellTyped.{of_type, of_type_step, all_of_type, Suits, MayCome, RunsWell}
-use Rattle.cel_soundness.proofs.Shapes.{seen, list_layer, map_layer, bool_typed, text_typed}
+use Rattle.cel_soundness.proofs.Shapes.{seen, list_layer, map_layer, text_typed}
 use Rattle.cel_soundness.proofs.Plain.{and_left, and_right, and_both}
 use Rattle.cel_soundness.proofs.Same.{absurd_plain, plain_bool}
 use Rattle.cel_soundness.proofs.Table.{some_same}
@@ -51,12 +50,14 @@ ranged v r t over_dyn p h = absurd_plain p
 
 -- ---- the variable
 
-suits_at : (b : Bool) (d : Decls) (env : Env) (m : List ℕ) (v : Value) (t u : CelType) → of_type v t ≡ true → Suits d env → cond b (Some t) (declared m d) ≡ Some u → (w : Value) × (or_unbound (cond b (Some v) (lookup m env)) ≡ Ok w) × (of_type w u ≡ true)
+suits_at : (b : Bool) (d : Decls) (env : Env) (m : List ℕ) (v : Value) (t u : CelType) → of_type v t ≡ true → Suits d env
+    → cond b (Some t) (declared m d) ≡ Some u → (w : Value) × (or_unbound (cond b (Some v) (lookup m env)) ≡ Ok w) × (of_type w u ≡ true)
 suits_at true d env m v t u h s is = (v, refl, ap (of_type v) (sym (some_same t u is)) ∙ h)
 suits_at false d env m v t u h s is = s m u is
 
 -- the environment of a macro's arguments suits the declarations with its variable
-pub suits_with : (d : Decls) (env : Env) (n : List ℕ) (v : Value) (t : CelType) → of_type v t ≡ true → Suits d env → Suits (with_variable n t d) (with_item n v env)
+pub suits_with : (d : Decls) (env : Env) (n : List ℕ) (v : Value) (t : CelType) → of_type v t ≡ true → Suits d env
+    → Suits (with_variable n t d) (with_item n v env)
 suits_with d env n v t h s m u is = suits_at (bytes_eq m n) d env m v t u h s is
 
 -- ---- tests of each item
@@ -66,7 +67,8 @@ abbrev EachTrue : List (Or Bool) → Type 0
 EachTrue [] = Unit {0}
 EachTrue (t ∷ ts) = RunsTrue t × EachTrue ts
 
-tests_well : (f : Value → Or Bool) (vs : List Value) (t : CelType) → ((v : Value) → of_type v t ≡ true → RunsTrue (f v)) → all_of_type (map of_type vs) t ≡ true → EachTrue (map f vs)
+tests_well : (f : Value → Or Bool) (vs : List Value) (t : CelType) → ((v : Value) → of_type v t ≡ true → RunsTrue (f v))
+    → all_of_type (map of_type vs) t ≡ true → EachTrue (map f vs)
 tests_well f [] t each h = tt
 tests_well f (v ∷ vs) t each h =
     let rest = all_of_type (map of_type vs) t in
@@ -103,7 +105,8 @@ one_well ts h = counted (in_order ts) (in_order_any ts h)
 
 -- ---- what is gathered of each item
 
-appended : (vs : List Value) (rest : Or (List Value)) (t : CelType) → all_of_type (map of_type vs) t ≡ true → RunsAll t rest → RunsAll t (rest >>= λ more. Ok (vs ++ more))
+appended : (vs : List Value) (rest : Or (List Value)) (t : CelType) → all_of_type (map of_type vs) t ≡ true → RunsAll t rest
+    → RunsAll t (rest >>= λ more. Ok (vs ++ more))
 appended vs (Ok ws) t h g = all_append vs ws t h g
 appended vs (Err e) t h g = g
 
@@ -111,7 +114,8 @@ gathered_later : (r : Or (List Value)) (rs : List (Or (List Value))) (t : CelTyp
 gathered_later (Ok vs) rs t h g = appended vs (gathered rs) t h g
 gathered_later (Err e) rs t h g = h
 
-gathered_well : (f : Value → Or (List Value)) (vs : List Value) (t u : CelType) → ((v : Value) → of_type v t ≡ true → RunsAll u (f v)) → all_of_type (map of_type vs) t ≡ true → RunsAll u (gathered (map f vs))
+gathered_well : (f : Value → Or (List Value)) (vs : List Value) (t u : CelType) → ((v : Value) → of_type v t ≡ true → RunsAll u (f v))
+    → all_of_type (map of_type vs) t ≡ true → RunsAll u (gathered (map f vs))
 gathered_well f [] t u each h = refl
 gathered_well f (v ∷ vs) t u each h =
     let rest = all_of_type (map of_type vs) t in
@@ -133,24 +137,35 @@ taken_well (Err e) o t h g = h
 
 -- ---- the macro
 
-over_items : (kind : MacroKind) (n : List ℕ) (test : Option Meaning) (p : Meaning) (env : Env) (t u v : CelType) (vs : List Value) → Gathers kind t u v → plain u ≡ true
-    → ((w : Value) → of_type w t ≡ true → RunsTrue (tested (passes test (with_item n w env)))) → ((w : Value) → of_type w t ≡ true → RunsWell u (p (with_item n w env)))
+over_items : (kind : MacroKind) (n : List ℕ) (test : Option Meaning) (p : Meaning) (env : Env) (t u v : CelType) (vs : List Value) → Gathers kind t u v
+    → plain u ≡ true
+    → ((w : Value) → of_type w t ≡ true → RunsTrue (tested (passes test (with_item n w env)))) →
+    ((w : Value) → of_type w t ≡ true → RunsWell u (p (with_item n w env)))
     → all_of_type (map of_type vs) t ≡ true → RunsWell v (over kind n test p env vs)
 over_items kind n test p env t u v vs (by_all f) q passing each h =
-    said_well (all_of (tests n p env vs)) (all_well (tests n p env vs) (tests_well (test_of n p env) vs t (λ w k. tested_well (p (with_item n w env)) (well_fitting u CelType.Bool (p (with_item n w env)) q plain_bool f (each w k))) h))
+    said_well (all_of (tests n p env vs)) (all_well (tests n p env vs)
+    (tests_well (test_of n p env) vs t (λ w k. tested_well (p (with_item n w env))
+    (well_fitting u CelType.Bool (p (with_item n w env)) q plain_bool f (each w k))) h))
 over_items kind n test p env t u v vs (by_exists f) q passing each h =
-    said_well (some_of (tests n p env vs)) (some_well (tests n p env vs) (tests_well (test_of n p env) vs t (λ w k. tested_well (p (with_item n w env)) (well_fitting u CelType.Bool (p (with_item n w env)) q plain_bool f (each w k))) h))
+    said_well (some_of (tests n p env vs)) (some_well (tests n p env vs)
+    (tests_well (test_of n p env) vs t (λ w k. tested_well (p (with_item n w env))
+    (well_fitting u CelType.Bool (p (with_item n w env)) q plain_bool f (each w k))) h))
 over_items kind n test p env t u v vs (by_exists_one f) q passing each h =
-    said_well (one_of (tests n p env vs)) (one_well (tests n p env vs) (tests_well (test_of n p env) vs t (λ w k. tested_well (p (with_item n w env)) (well_fitting u CelType.Bool (p (with_item n w env)) q plain_bool f (each w k))) h))
+    said_well (one_of (tests n p env vs)) (one_well (tests n p env vs)
+    (tests_well (test_of n p env) vs t (λ w k. tested_well (p (with_item n w env))
+    (well_fitting u CelType.Bool (p (with_item n w env)) q plain_bool f (each w k))) h))
 over_items kind n test p env t u v vs (by_filter f) q passing each h =
     list_well (gathered (map (kept_of n p env) vs)) t (gathered_well (kept_of n p env) vs t t
-        (λ w k. kept_well w (tested (p (with_item n w env))) t k (tested_well (p (with_item n w env)) (well_fitting u CelType.Bool (p (with_item n w env)) q plain_bool f (each w k)))) h)
+    (λ w k. kept_well w (tested (p (with_item n w env))) t k
+    (tested_well (p (with_item n w env)) (well_fitting u CelType.Bool (p (with_item n w env)) q plain_bool f (each w k)))) h)
 over_items kind n test p env t u v vs by_map q passing each h =
     list_well (gathered (map (taken_of n test p env) vs)) u (gathered_well (taken_of n test p env) vs t u
-        (λ w k. taken_well (tested (passes test (with_item n w env))) (p (with_item n w env)) u (passing w k) (each w k)) h)
+    (λ w k. taken_well (tested (passes test (with_item n w env))) (p (with_item n w env)) u (passing w k) (each w k)) h)
 
-pub over_well : (kind : MacroKind) (n : List ℕ) (test : Option Meaning) (p : Meaning) (env : Env) (t u v : CelType) (items : Or (List Value)) → Gathers kind t u v → plain u ≡ true
-    → ((w : Value) → of_type w t ≡ true → RunsTrue (tested (passes test (with_item n w env)))) → ((w : Value) → of_type w t ≡ true → RunsWell u (p (with_item n w env)))
+pub over_well : (kind : MacroKind) (n : List ℕ) (test : Option Meaning) (p : Meaning) (env : Env) (t u v : CelType) (items : Or (List Value))
+    → Gathers kind t u v → plain u ≡ true
+    → ((w : Value) → of_type w t ≡ true → RunsTrue (tested (passes test (with_item n w env)))) →
+    ((w : Value) → of_type w t ≡ true → RunsWell u (p (with_item n w env)))
     → RunsAll t items → RunsWell v (items >>= over kind n test p env)
 over_well kind n test p env t u v (Ok vs) g q passing each h = over_items kind n test p env t u v vs g q passing each h
 over_well kind n test p env t u v (Err e) g q passing each h = h

@@ -1,5 +1,5 @@
 -- A value of a type without dyn holds nothing opaque, and its kind is the one that the type fits.
-use Rattle.std.proofs.Common.{◌≡◌, ℕ, ℤ, nat_eq, Bool, true, false, not, ◌||◌, ◌&&◌, List, [], ◌∷◌, map, refl, sym, ap, ◌∙◌, subst}
+use Rattle.std.proofs.Common.{◌≡◌, ℕ, nat_eq, Bool, true, false, not, ◌||◌, ◌&&◌, List, [], ◌∷◌, map, refl, sym, ap, ◌∙◌, subst}
 use Rattle.cel_values.specs.declared.value.Value.{Value, out-Value}
 use Rattle.cel_values.specs.declared.value.Value.TheOpen.{Value-F, MapEntry-F}
 use Rattle.cel_values.specs.declared.value.Value.TheViews.{roll-Value, out-roll-Value}
@@ -25,10 +25,6 @@ pub plain_is : (t : CelType) → plain t ≡ plain_layer (out-CelType t)
 plain_is t = fold_out-CelType Bool plain_step t
 
 -- ---- kinds
-
--- the kind is that of the value
-abbrev pub is_kind : Shape → ℕ → Bool
-is_kind x k = nat_eq (kind_step x) k
 
 kind_shape : (x : Shape) (u : TypeShape) (k : ℕ) → plain_layer u ≡ true → of_type_step (seen x) u ≡ true → fits_kind_step u k ≡ nat_eq k (kind_step x)
 kind_shape x CelType-F.Dyn k p h = cc
@@ -74,19 +70,21 @@ none_of : (a b : Bool) → a ≡ false → b ≡ false → (a || b) ≡ false
 none_of false b h k = k
 none_of true b h k = cc
 
-items_clear : (vs : List ((v : Value) × NoOpaque v)) (t : CelType) → plain t ≡ true → all_of_type (map of_type (map (λ e. e.0) vs)) t ≡ true → any_of (map holds_opaque (map (λ e. e.0) vs)) ≡ false
+items_clear : (vs : List ((v : Value) × NoOpaque v)) (t : CelType) → plain t ≡ true → all_of_type (map of_type (map (λ e. e.0) vs)) t ≡ true
+    → any_of (map holds_opaque (map (λ e. e.0) vs)) ≡ false
 items_clear [] t p h = refl
 items_clear (v ∷ vs) t p h =
     let rest = all_of_type (map of_type (map (λ e. e.0) vs)) t in
     none_of (holds_opaque v.0) (any_of (map holds_opaque (map (λ e. e.0) vs)))
-        (v.1 t p (and_left (of_type v.0 t) rest h)) (items_clear vs t p (and_right (of_type v.0 t) rest h))
+    (v.1 t p (and_left (of_type v.0 t) rest h)) (items_clear vs t p (and_right (of_type v.0 t) rest h))
 
-entries_clear : (es : List ((e : MapEntry) × EntryNoOpaque e)) (t : CelType) → plain t ≡ true → all_of_type (map entry_of_type (map (λ e. e.0) es)) t ≡ true → any_of (map entry_opaque (map (λ e. e.0) es)) ≡ false
+entries_clear : (es : List ((e : MapEntry) × EntryNoOpaque e)) (t : CelType) → plain t ≡ true → all_of_type (map entry_of_type (map (λ e. e.0) es)) t ≡ true
+    → any_of (map entry_opaque (map (λ e. e.0) es)) ≡ false
 entries_clear [] t p h = refl
 entries_clear (e ∷ es) t p h =
     let rest = all_of_type (map entry_of_type (map (λ e'. e'.0) es)) t in
     none_of (entry_opaque e.0) (any_of (map entry_opaque (map (λ e'. e'.0) es)))
-        (e.1 t p (and_left (entry_of_type e.0 t) rest h)) (entries_clear es t p (and_right (entry_of_type e.0 t) rest h))
+    (e.1 t p (and_left (entry_of_type e.0 t) rest h)) (entries_clear es t p (and_right (entry_of_type e.0 t) rest h))
 
 abbrev Held : Type 0
 Held = Value-F ((v : Value) × NoOpaque v) ((e : MapEntry) × EntryNoOpaque e)
@@ -94,7 +92,8 @@ Held = Value-F ((v : Value) × NoOpaque v) ((e : MapEntry) × EntryNoOpaque e)
 abbrev plain_parts : Held → Shape
 plain_parts y = map-Value ((v : Value) × NoOpaque v) ((e : MapEntry) × EntryNoOpaque e) Value MapEntry (λ e. e.0) (λ e. e.0) y
 
-clear_layer : (y : Held) (u : TypeShape) → plain_layer u ≡ true → of_type_step (seen (plain_parts y)) u ≡ true → opaque_step (map-Value Value MapEntry Bool Bool holds_opaque entry_opaque (plain_parts y)) ≡ false
+clear_layer : (y : Held) (u : TypeShape) → plain_layer u ≡ true → of_type_step (seen (plain_parts y)) u ≡ true
+    → opaque_step (map-Value Value MapEntry Bool Bool holds_opaque entry_opaque (plain_parts y)) ≡ false
 clear_layer Value-F.Null u p h = refl
 clear_layer (Value-F.Bool b) u p h = refl
 clear_layer (Value-F.Int z) u p h = refl
@@ -114,16 +113,19 @@ clear_step : (y : Held) → NoOpaque (roll-Value (plain_parts y))
 clear_step y t p h =
     fold-roll-Value Bool Bool opaque_step (λ e. e.value) (plain_parts y)
     ∙ clear_layer y (out-CelType t) (sym (plain_is t) ∙ p)
-        (sym (ap (λ x. of_type_step (seen x) (out-CelType t)) (out-roll-Value (plain_parts y))) ∙ (sym (of_type_is (roll-Value (plain_parts y)) t) ∙ h))
+    (sym (ap (λ x. of_type_step (seen x) (out-CelType t)) (out-roll-Value (plain_parts y))) ∙ (sym (of_type_is (roll-Value (plain_parts y)) t) ∙ h))
 
 entry_step : (y : MapEntry-F ((v : Value) × NoOpaque v) ((e : MapEntry) × EntryNoOpaque e)) → EntryNoOpaque (record { key = y.key; value = y.value.0 })
 entry_step y t p h =
     fold-roll-MapEntry Bool Bool opaque_step (λ e. e.value) (record { key = y.key; value = y.value.0 })
-    ∙ y.value.1 t p (sym (ap (λ f. f t) (fold-roll-MapEntry (CelType → Bool) (CelType → Bool) (λ x u. of_type_step x (out-CelType u)) (λ e. e.value) (record { key = y.key; value = y.value.0 }))) ∙ h)
+    ∙ y.value.1 t p (sym (ap (λ f. f t) (fold-roll-MapEntry (CelType → Bool) (CelType → Bool) (λ x u. of_type_step x (out-CelType u)) (λ e. e.value)
+    (record { key = y.key; value = y.value.0 }))) ∙ h)
 
 -- a value of a plain type holds nothing opaque
 pub clear : (v : Value) → NoOpaque v
-clear = ind-Value NoOpaque EntryNoOpaque (λ x y is. subst (λ z. NoOpaque (roll-Value z)) is (clear_step y)) (λ x y is. subst (λ z. EntryNoOpaque (record { key = z.key; value = z.value })) is (entry_step y))
+clear =
+    ind-Value NoOpaque EntryNoOpaque (λ x y is. subst (λ z. NoOpaque (roll-Value z)) is (clear_step y))
+    (λ x y is. subst (λ z. EntryNoOpaque (record { key = z.key; value = z.value })) is (entry_step y))
 
 -- each function takes a value of a plain type
 pub taken : (f : Function) (v : Value) (t : CelType) → plain t ≡ true → of_type v t ≡ true → takes f v ≡ true

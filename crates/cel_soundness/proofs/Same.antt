@@ -1,14 +1,14 @@
 -- Types that are the same are equal, and so are types without dyn that fit.
-use Rattle.std.proofs.Common.{◌≡◌, Bool, true, false, ◌&&◌, List, [], ◌∷◌, refl, sym, ap, ◌∙◌, subst, cond}
+use Rattle.std.proofs.Common.{◌≡◌, Bool, true, false, List, [], ◌∷◌, refl, sym, ap, ◌∙◌, subst, cond}
 use Rattle.cel_types.specs.declared.cel_type.CelType.{CelType, out-CelType}
 use Rattle.cel_types.specs.declared.cel_type.CelType.TheOpen.{CelType-F}
 use Rattle.cel_types.specs.declared.cel_type.CelType.TheViews as types
 use Rattle.cel_types.specs.declared.cel_type.CelType.TheViews.{roll-CelType, out-roll-CelType, roll-out-CelType}
-use Rattle.cel_types.specs.declared.cel_type.CelType.TheFolds.{fold_out-CelType, fold-roll-CelType, map-CelType, ind-CelType}
+use Rattle.cel_types.specs.declared.cel_type.CelType.TheFolds.{fold-roll-CelType, map-CelType, ind-CelType}
 use Rattle.cel_types.specs.declared.cel_type.CelType.TheVariants as type
-use Rattle.cel_types.specs.Types.{same, same_step, plain, plain_step, fits, fits_step, join, join_all, all_fit}
+use Rattle.cel_types.specs.Types.{same, same_step, plain, plain_step, fits, fits_step, join, join_all}
 use Rattle.cel_soundness.proofs.Shapes.{TypeShape}
-use Rattle.cel_soundness.proofs.Plain.{plain_layer, plain_is, and_left, and_right}
+use Rattle.cel_soundness.proofs.Plain.{plain_layer, plain_is}
 
 -- ---- equal types
 
@@ -35,7 +35,8 @@ equal_layer _ _ h = cc
 
 equal_step : (y : Held) → Equal (roll-CelType (parts y))
 equal_step y u h =
-    ap roll-CelType (equal_layer y (out-CelType u) (sym (ap (λ f. f u) (fold-roll-CelType (CelType → Bool) (λ x t. same_step x (out-CelType t)) (parts y))) ∙ h))
+    ap roll-CelType (equal_layer y (out-CelType u) (sym (ap (λ f. f u)
+    (fold-roll-CelType (CelType → Bool) (λ x t. same_step x (out-CelType t)) (parts y))) ∙ h))
     ∙ roll-out-CelType u
 
 pub same_equal : (t : CelType) → Equal t
@@ -52,7 +53,8 @@ Fitting = CelType-F ((t : CelType) × FitsAlone t)
 abbrev of_fitting : Fitting → TypeShape
 of_fitting y = map-CelType ((t : CelType) × FitsAlone t) CelType (λ e. e.0) y
 
-alone_layer : (y : Fitting) (u : TypeShape) → plain_layer (of_fitting y) ≡ true → plain_layer u ≡ true → fits_step (map-CelType CelType (CelType → Bool) fits (of_fitting y)) u ≡ true → of_fitting y ≡ u
+alone_layer : (y : Fitting) (u : TypeShape) → plain_layer (of_fitting y) ≡ true → plain_layer u ≡ true
+    → fits_step (map-CelType CelType (CelType → Bool) fits (of_fitting y)) u ≡ true → of_fitting y ≡ u
 alone_layer CelType-F.Dyn u p q h = cc
 alone_layer CelType-F.Null CelType-F.Null p q h = refl
 alone_layer CelType-F.Bool CelType-F.Bool p q h = refl
@@ -67,8 +69,8 @@ alone_layer _ _ p q h = cc
 alone_step : (y : Fitting) → FitsAlone (roll-CelType (of_fitting y))
 alone_step y u p q h =
     ap roll-CelType (alone_layer y (out-CelType u)
-        (sym (fold-roll-CelType Bool plain_step (of_fitting y)) ∙ p) (sym (plain_is u) ∙ q)
-        (sym (ap (λ f. f u) (fold-roll-CelType (CelType → Bool) (λ x t. fits_step x (out-CelType t)) (of_fitting y))) ∙ h))
+    (sym (fold-roll-CelType Bool plain_step (of_fitting y)) ∙ p) (sym (plain_is u) ∙ q)
+    (sym (ap (λ f. f u) (fold-roll-CelType (CelType → Bool) (λ x t. fits_step x (out-CelType t)) (of_fitting y))) ∙ h))
     ∙ roll-out-CelType u
 
 -- a plain type fits itself alone among plain ones

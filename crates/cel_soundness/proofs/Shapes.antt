@@ -1,5 +1,5 @@
 -- The layers of a value and of a type that it has.
-use Rattle.std.proofs.Common.{◌≡◌, ℕ, ℤ, Bool, true, false, ◌&&◌, List, [], ◌∷◌, map, refl, sym, ap, ◌∙◌, subst}
+use Rattle.std.proofs.Common.{◌≡◌, ℕ, ℤ, Bool, true, ◌&&◌, List, [], ◌∷◌, map, refl, sym, ap, ◌∙◌}
 use Rattle.cel_values.specs.declared.value.Value.{Value, out-Value}
 use Rattle.cel_values.specs.declared.value.Value.TheOpen.{Value-F}
 use Rattle.cel_values.specs.declared.value.Value.TheViews as made
@@ -24,7 +24,8 @@ entry_of_type e = fold-MapEntry (CelType → Bool) (CelType → Bool) (λ x t. o
 -- the type of an entry is that of its value
 pub entry_typed : (e : MapEntry) (t : CelType) → entry_of_type e t ≡ of_type e.value t
 entry_typed e t =
-    ap (λ f. f t) (fold-roll-MapEntry (CelType → Bool) (CelType → Bool) (λ x u. of_type_step x (out-CelType u)) (λ e'. e'.value) (record { key = e.key; value = e.value }))
+    ap (λ f. f t) (fold-roll-MapEntry (CelType → Bool) (CelType → Bool) (λ x u. of_type_step x (out-CelType u)) (λ e'. e'.value)
+    (record { key = e.key; value = e.value }))
 
 abbrev pub seen : Shape → Value-F (CelType → Bool) (CelType → Bool)
 seen x = map-Value Value MapEntry (CelType → Bool) (CelType → Bool) of_type entry_of_type x

@@ -1,5 +1,5 @@
 -- The overload table and the functions agree: where the table has a type, the function runs well.
-use Rattle.std.proofs.Common.{◌≡◌, ℕ, ℤ, pos, neg_ℤ, ◌+ℤ◌, ◌-ℤ◌, ◌*ℤ◌, ◌/◌, ◌%◌, nat_eq, nat_le, Bool, true, false, not, ◌&&◌, List, [], ◌∷◌, ◌++◌, map, length, Option, None, Some, Ok, Err, cond, refl, sym, ap, ◌∙◌, subst}
+use Rattle.std.proofs.Common.{◌≡◌, ℕ, ℤ, pos, neg_ℤ, ◌+ℤ◌, ◌-ℤ◌, ◌*ℤ◌, ◌/◌, ◌%◌, nat_eq, nat_le, Bool, true, false, not, ◌&&◌, List, [], ◌∷◌, ◌++◌, map, length, Option, None, Some, Ok, Err, cond, refl, sym, subst}
 use Rattle.std.specs.Prelude.{int_div, int_rem, option_map}
 use Rattle.std.specs.Char.{to_ascii_lowercase}
 use Rattle.std.specs.Cmp.Lexicographic.{slice_cmp}
@@ -15,17 +15,17 @@ use Rattle.cel_builtins.specs.declared.overloads.TheConstants.{OVERLOADS}
 use Rattle.cel_builtins.specs.Functions.{of_one, of_two, where_fits}
 use Rattle.cel_builtins.specs.Outcomes.{Or, Outcome, Shape, ◌>>=◌, in_order, weighed}
 use Rattle.cel_builtins.specs.Overloads.{kind_step, number, row}
-use Rattle.cel_builtins.specs.Numbers.{is_integer, is_moment, is_span, integer, moment, span, quotient, remainder, sum_of, difference_of, product_of, quotient_of, remainder_of, opposite_of, inverse_of, related}
+use Rattle.cel_builtins.specs.Numbers.{is_integer, is_moment, is_span, integer, moment, span, quotient, remainder}
 use Rattle.cel_builtins.specs.Calendar.{part_of, full_year, month, day_of_month, day_of_year, date, day_of_week, hours, minutes, seconds_of_minute}
 use Rattle.cel_builtins.specs.Durations.{where_good, integer_value, span_value, signed, number_in, unsigned_text, parts_seconds, truth_text}
-use Rattle.cel_builtins.specs.Texts.{tested_part, contains, has_front, has_end, extracted, extracted_by, template_of, split_of, join_of, lowered, size_of, pieces, text_value, text_in, texts_in, joined, code_points}
+use Rattle.cel_builtins.specs.Texts.{contains, has_front, has_end, extracted_by, template_of, split_of, pieces, text_value, text_in, texts_in, joined, code_points}
 use Rattle.cel_builtins.specs.Timestamps.{is_moment_text, seconds_in, moment_text}
-use Rattle.cel_types.specs.declared.cel_type.CelType.{CelType, out-CelType}
+use Rattle.cel_types.specs.declared.cel_type.CelType.{CelType}
 use Rattle.cel_types.specs.declared.cel_type.CelType.TheOpen.{CelType-F}
 use Rattle.cel_types.specs.declared.cel_type.CelType.TheViews as types
 use Rattle.cel_types.specs.Rows.{common}
-use Rattle.cel_soundness.specs.WellTyped.{MayCome, RunsWell, of_type, of_type_step, all_of_type}
-use Rattle.cel_soundness.proofs.Shapes.{seen, layer, text_layer, bool_typed, int_typed, text_typed, time_typed, span_typed, list_typed, all_any}
+use Rattle.cel_soundness.specs.WellTyped.{RunsWell, of_type, of_type_step, all_of_type}
+use Rattle.cel_soundness.proofs.Shapes.{seen, text_layer, bool_typed, int_typed, text_typed, time_typed, span_typed, list_typed, all_any}
 use Rattle.cel_soundness.proofs.Plain.{and_left, and_right, and_both}
 
 -- ---- results
@@ -52,7 +52,7 @@ well_quotient a b = well_if (int_eq b (pos 0)) CelType.Int (Err EvalError.Divide
 well_remainder : (a b : ℤ) → RunsWell CelType.Int (remainder a b)
 well_remainder a b =
     well_if (int_eq b (pos 0)) CelType.Int (Err EvalError.Divide) (cond (is_integer (int_div a b)) (Ok (Value.Int (int_rem a b))) (Err EvalError.Overflow)) tt
-        (well_if (is_integer (int_div a b)) CelType.Int (Ok (Value.Int (int_rem a b))) (Err EvalError.Overflow) (int_typed (int_rem a b)) tt)
+    (well_if (is_integer (int_div a b)) CelType.Int (Ok (Value.Int (int_rem a b))) (Err EvalError.Overflow) (int_typed (int_rem a b)) tt)
 
 well_part : (part : ℤ → ℤ) (z : ℤ) → RunsWell CelType.Int (part_of part (Value-F.Time z))
 well_part part z = well_if (is_moment z) CelType.Int (Ok (Value.Int (part z))) (Err EvalError.Overflow) (int_typed (part z)) tt
@@ -67,12 +67,14 @@ well_extracted (Some parts) text = text_typed _
 
 texts_typed : (ts : List (List ℕ)) → all_of_type (map of_type (map text_value ts)) CelType.Text ≡ true
 texts_typed [] = refl
-texts_typed (t ∷ ts) = and_both (of_type (text_value t) CelType.Text) (all_of_type (map of_type (map text_value ts)) CelType.Text) (text_typed t) (texts_typed ts)
+texts_typed (t ∷ ts) =
+    and_both (of_type (text_value t) CelType.Text) (all_of_type (map of_type (map text_value ts)) CelType.Text) (text_typed t) (texts_typed ts)
 
 well_split : (text separator : List ℕ) → RunsWell (types.List CelType.Text) (split_of (Value-F.Text text) (Value-F.Text separator))
 well_split text separator =
     well_if _ (types.List CelType.Text) (Err EvalError.BadText) (weighed (made.List (map text_value (pieces separator text)))) tt
-        (well_weighed (made.List (map text_value (pieces separator text))) (types.List CelType.Text) (list_typed (map text_value (pieces separator text)) CelType.Text (texts_typed (pieces separator text))))
+    (well_weighed (made.List (map text_value (pieces separator text))) (types.List CelType.Text)
+    (list_typed (map text_value (pieces separator text)) CelType.Text (texts_typed (pieces separator text))))
 
 -- the items are texts
 data AreTexts : Or (List (List ℕ)) → Type 0 where
@@ -95,7 +97,8 @@ items_are_texts (v ∷ vs) h =
     let first = text_shape (out-Value v) (text_layer v (and_left (of_type v CelType.Text) rest h)) in
     text_before (text_in (out-Value v)) first.0 (map (λ w. text_in (out-Value w)) vs) first.1 (items_are_texts vs (and_right (of_type v CelType.Text) rest h))
 
-joined_well : (separator : List ℕ) (texts : Or (List (List ℕ))) → AreTexts texts → RunsWell CelType.Text (texts >>= λ ts. weighed (Value.Text (joined separator ts)))
+joined_well : (separator : List ℕ) (texts : Or (List (List ℕ))) → AreTexts texts
+    → RunsWell CelType.Text (texts >>= λ ts. weighed (Value.Text (joined separator ts)))
 joined_well separator texts (are_texts ts) = well_weighed (Value.Text (joined separator ts)) CelType.Text (text_typed (joined separator ts))
 
 -- ---- the rows that fit
@@ -137,7 +140,8 @@ add_agrees : (a b : Shape) → Agrees Function.Add a b
 unfolding row
 add_agrees (Value-F.Int x) (Value-F.Int y) v h = at_type CelType.Int v _ h (well_integer (x +ℤ y))
 add_agrees (Value-F.Text x) (Value-F.Text y) v h = at_type CelType.Text v _ h (well_weighed (Value.Text (x ++ y)) CelType.Text (text_typed (x ++ y)))
-add_agrees (Value-F.List x) (Value-F.List y) v h = at_type (types.List CelType.Dyn) v _ h (well_weighed (made.List (x ++ y)) (types.List CelType.Dyn) (list_typed (x ++ y) CelType.Dyn (all_any (x ++ y))))
+add_agrees (Value-F.List x) (Value-F.List y) v h =
+    at_type (types.List CelType.Dyn) v _ h (well_weighed (made.List (x ++ y)) (types.List CelType.Dyn) (list_typed (x ++ y) CelType.Dyn (all_any (x ++ y))))
 add_agrees (Value-F.Time x) (Value-F.Span y) v h = at_type CelType.Time v _ h (well_moment (x +ℤ y))
 add_agrees (Value-F.Span x) (Value-F.Time y) v h = at_type CelType.Time v _ h (well_moment (x +ℤ y))
 add_agrees (Value-F.Span x) (Value-F.Span y) v h = at_type CelType.Span v _ h (well_span (x +ℤ y))
@@ -170,7 +174,8 @@ lt_agrees : (a b : Shape) → Agrees Function.Lt a b
 unfolding row
 lt_agrees (Value-F.Bool x) (Value-F.Bool y) v h = at_type CelType.Bool v (Ok (Value.Bool (is_lt (bool_cmp x y)))) h (bool_typed (is_lt (bool_cmp x y)))
 lt_agrees (Value-F.Int x) (Value-F.Int y) v h = at_type CelType.Bool v (Ok (Value.Bool (is_lt (int_cmp x y)))) h (bool_typed (is_lt (int_cmp x y)))
-lt_agrees (Value-F.Text x) (Value-F.Text y) v h = at_type CelType.Bool v (Ok (Value.Bool (is_lt (slice_cmp nat_cmp x y)))) h (bool_typed (is_lt (slice_cmp nat_cmp x y)))
+lt_agrees (Value-F.Text x) (Value-F.Text y) v h =
+    at_type CelType.Bool v (Ok (Value.Bool (is_lt (slice_cmp nat_cmp x y)))) h (bool_typed (is_lt (slice_cmp nat_cmp x y)))
 lt_agrees (Value-F.Time x) (Value-F.Time y) v h = at_type CelType.Bool v (Ok (Value.Bool (is_lt (int_cmp x y)))) h (bool_typed (is_lt (int_cmp x y)))
 lt_agrees (Value-F.Span x) (Value-F.Span y) v h = at_type CelType.Bool v (Ok (Value.Bool (is_lt (int_cmp x y)))) h (bool_typed (is_lt (int_cmp x y)))
 lt_agrees _ _ v h = absurd (none_some v h)
@@ -179,7 +184,8 @@ le_agrees : (a b : Shape) → Agrees Function.Le a b
 unfolding row
 le_agrees (Value-F.Bool x) (Value-F.Bool y) v h = at_type CelType.Bool v (Ok (Value.Bool (is_le (bool_cmp x y)))) h (bool_typed (is_le (bool_cmp x y)))
 le_agrees (Value-F.Int x) (Value-F.Int y) v h = at_type CelType.Bool v (Ok (Value.Bool (is_le (int_cmp x y)))) h (bool_typed (is_le (int_cmp x y)))
-le_agrees (Value-F.Text x) (Value-F.Text y) v h = at_type CelType.Bool v (Ok (Value.Bool (is_le (slice_cmp nat_cmp x y)))) h (bool_typed (is_le (slice_cmp nat_cmp x y)))
+le_agrees (Value-F.Text x) (Value-F.Text y) v h =
+    at_type CelType.Bool v (Ok (Value.Bool (is_le (slice_cmp nat_cmp x y)))) h (bool_typed (is_le (slice_cmp nat_cmp x y)))
 le_agrees (Value-F.Time x) (Value-F.Time y) v h = at_type CelType.Bool v (Ok (Value.Bool (is_le (int_cmp x y)))) h (bool_typed (is_le (int_cmp x y)))
 le_agrees (Value-F.Span x) (Value-F.Span y) v h = at_type CelType.Bool v (Ok (Value.Bool (is_le (int_cmp x y)))) h (bool_typed (is_le (int_cmp x y)))
 le_agrees _ _ v h = absurd (none_some v h)
@@ -188,7 +194,8 @@ gt_agrees : (a b : Shape) → Agrees Function.Gt a b
 unfolding row
 gt_agrees (Value-F.Bool x) (Value-F.Bool y) v h = at_type CelType.Bool v (Ok (Value.Bool (is_gt (bool_cmp x y)))) h (bool_typed (is_gt (bool_cmp x y)))
 gt_agrees (Value-F.Int x) (Value-F.Int y) v h = at_type CelType.Bool v (Ok (Value.Bool (is_gt (int_cmp x y)))) h (bool_typed (is_gt (int_cmp x y)))
-gt_agrees (Value-F.Text x) (Value-F.Text y) v h = at_type CelType.Bool v (Ok (Value.Bool (is_gt (slice_cmp nat_cmp x y)))) h (bool_typed (is_gt (slice_cmp nat_cmp x y)))
+gt_agrees (Value-F.Text x) (Value-F.Text y) v h =
+    at_type CelType.Bool v (Ok (Value.Bool (is_gt (slice_cmp nat_cmp x y)))) h (bool_typed (is_gt (slice_cmp nat_cmp x y)))
 gt_agrees (Value-F.Time x) (Value-F.Time y) v h = at_type CelType.Bool v (Ok (Value.Bool (is_gt (int_cmp x y)))) h (bool_typed (is_gt (int_cmp x y)))
 gt_agrees (Value-F.Span x) (Value-F.Span y) v h = at_type CelType.Bool v (Ok (Value.Bool (is_gt (int_cmp x y)))) h (bool_typed (is_gt (int_cmp x y)))
 gt_agrees _ _ v h = absurd (none_some v h)
@@ -197,7 +204,8 @@ ge_agrees : (a b : Shape) → Agrees Function.Ge a b
 unfolding row
 ge_agrees (Value-F.Bool x) (Value-F.Bool y) v h = at_type CelType.Bool v (Ok (Value.Bool (is_ge (bool_cmp x y)))) h (bool_typed (is_ge (bool_cmp x y)))
 ge_agrees (Value-F.Int x) (Value-F.Int y) v h = at_type CelType.Bool v (Ok (Value.Bool (is_ge (int_cmp x y)))) h (bool_typed (is_ge (int_cmp x y)))
-ge_agrees (Value-F.Text x) (Value-F.Text y) v h = at_type CelType.Bool v (Ok (Value.Bool (is_ge (slice_cmp nat_cmp x y)))) h (bool_typed (is_ge (slice_cmp nat_cmp x y)))
+ge_agrees (Value-F.Text x) (Value-F.Text y) v h =
+    at_type CelType.Bool v (Ok (Value.Bool (is_ge (slice_cmp nat_cmp x y)))) h (bool_typed (is_ge (slice_cmp nat_cmp x y)))
 ge_agrees (Value-F.Time x) (Value-F.Time y) v h = at_type CelType.Bool v (Ok (Value.Bool (is_ge (int_cmp x y)))) h (bool_typed (is_ge (int_cmp x y)))
 ge_agrees (Value-F.Span x) (Value-F.Span y) v h = at_type CelType.Bool v (Ok (Value.Bool (is_ge (int_cmp x y)))) h (bool_typed (is_ge (int_cmp x y)))
 ge_agrees _ _ v h = absurd (none_some v h)
@@ -264,9 +272,11 @@ one_agrees Function.Neg (Value-F.Int x) v h = at_type CelType.Int v _ h (well_in
 one_agrees Function.Size (Value-F.Text x) v h = at_type CelType.Int v _ h (well_integer (pos (code_points x)))
 one_agrees Function.Size (Value-F.List x) v h = at_type CelType.Int v _ h (well_integer (pos (length x)))
 one_agrees Function.Size (Value-F.Map x) v h = at_type CelType.Int v _ h (well_integer (pos (length x)))
-one_agrees Function.LowerAscii (Value-F.Text x) v h = at_type CelType.Text v (Ok (Value.Text (map to_ascii_lowercase x))) h (text_typed (map to_ascii_lowercase x))
+one_agrees Function.LowerAscii (Value-F.Text x) v h =
+    at_type CelType.Text v (Ok (Value.Text (map to_ascii_lowercase x))) h (text_typed (map to_ascii_lowercase x))
 one_agrees Function.Int (Value-F.Int x) v h = at_type CelType.Int v (Ok (Value.Int x)) h (int_typed x)
-one_agrees Function.Int (Value-F.Text x) v h = at_type CelType.Int v _ h (well_good is_integer integer_value CelType.Int int_typed (option_map (signed x) (number_in (unsigned_text x))))
+one_agrees Function.Int (Value-F.Text x) v h =
+    at_type CelType.Int v _ h (well_good is_integer integer_value CelType.Int int_typed (option_map (signed x) (number_in (unsigned_text x))))
 one_agrees Function.Int (Value-F.Time x) v h = at_type CelType.Int v (Ok (Value.Int x)) h (int_typed x)
 one_agrees Function.String (Value-F.Text x) v h = at_type CelType.Text v (Ok (Value.Text x)) h (text_typed x)
 one_agrees Function.String (Value-F.Int x) v h = at_type CelType.Text v (Ok (Value.Text (signed_decimal x))) h (text_typed (signed_decimal x))
@@ -276,7 +286,8 @@ one_agrees Function.String (Value-F.Time x) v h =
 one_agrees Function.Timestamp (Value-F.Text x) v h =
     at_type CelType.Time v _ h (well_if (is_moment_text x) CelType.Time (Ok (Value.Time (seconds_in x))) (Err EvalError.BadText) (time_typed (seconds_in x)) tt)
 one_agrees Function.Timestamp (Value-F.Time x) v h = at_type CelType.Time v (Ok (Value.Time x)) h (time_typed x)
-one_agrees Function.Duration (Value-F.Text x) v h = at_type CelType.Span v _ h (well_good is_span span_value CelType.Span span_typed (option_map (signed x) (parts_seconds (unsigned_text x))))
+one_agrees Function.Duration (Value-F.Text x) v h =
+    at_type CelType.Span v _ h (well_good is_span span_value CelType.Span span_typed (option_map (signed x) (parts_seconds (unsigned_text x))))
 one_agrees Function.Duration (Value-F.Span x) v h = at_type CelType.Span v (Ok (Value.Span x)) h (span_typed x)
 one_agrees Function.GetFullYear (Value-F.Time x) v h = at_type CelType.Int v _ h (well_part full_year x)
 one_agrees Function.GetMonth (Value-F.Time x) v h = at_type CelType.Int v _ h (well_part month x)
