@@ -1,9 +1,9 @@
 -- Values of a type, environments that suit declarations, and evaluations that run well.
-use Rattle.std.specs.Prelude.{◌≡◌, ℕ, ⊤, ⊥, Bool, true, false, ◌&&◌, List, [], ◌∷◌, Some, Ok, Err}
+use Rattle.std.specs.Prelude.{◌≡◌, ℕ, ⊤, Bool, true, false, ◌&&◌, List, [], ◌∷◌, Some, Ok, Err}
 use Rattle.cel_values.specs.declared.error.EvalError.{EvalError}
 use Rattle.cel_values.specs.declared.error.EvalError.TheVariants as error
 use Rattle.cel_values.specs.declared.value.Value.{Value, fold-Value}
-use Rattle.cel_values.specs.declared.value.Value.TheOpen.{Value-F, MapEntry-F}
+use Rattle.cel_values.specs.declared.value.Value.TheOpen.{Value-F}
 use Rattle.cel_builtins.specs.Outcomes.{Outcome}
 use Rattle.cel_eval.specs.Denotation.{Env, named}
 use Rattle.cel_types.specs.declared.cel_type.CelType.{CelType, out-CelType}

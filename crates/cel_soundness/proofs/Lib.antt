@@ -1,0 +1,12 @@
+pub mod Shapes
+pub mod Plain
+pub mod Same
+pub mod Table
+pub mod Calls
+pub mod Denoted
+pub mod Steps
+pub mod Literals
+pub mod Macros
+pub mod Soundness
+pub mod Bound
+pub mod Names
