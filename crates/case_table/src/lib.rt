@@ -5,4 +5,4 @@ mod table;
 #[cfg(test)]
 mod tests;
 
-pub use table::{Doubled, Table};
+pub use table::{Doubled, Table, value_under};

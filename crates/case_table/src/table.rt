@@ -41,11 +41,12 @@ impl<const N: usize> Table<N> {
     pub fn find(&self, key: u32) -> Option<u32>
         ensures { result ≡ found key self.now }
     {
-        value_of(&self.rows, key)
+        value_under(&self.rows, key)
     }
 }
 
-fn value_of(rows: &[(u32, u32)], key: u32) -> Option<u32>
+/// The value of the first row with this key.
+pub fn value_under(rows: &[(u32, u32)], key: u32) -> Option<u32>
     ensures { result ≡ found key rows.now }
 {
     for row in rows {

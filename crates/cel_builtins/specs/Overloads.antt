@@ -7,6 +7,7 @@ use Rattle.cel_builtins.specs.declared.overloads.TheConstants.{OVERLOADS}
 use Rattle.cel_values.specs.declared.value.Value.{Value, out-Value}
 use Rattle.cel_values.specs.declared.value.Value.TheOpen.{Value-F}
 use Rattle.cel_builtins.specs.Outcomes.{Shape}
+use Rattle.case_table.specs.Cases.{found}
 
 -- the number of a function in the table
 abbrev pub number : Function → ℕ
@@ -58,11 +59,6 @@ kind_step Value-F.Opaque = 9
 -- the kind of a value
 abbrev pub kind : Value → ℕ
 kind v = kind_step (out-Value v)
-
--- the value beside a key
-abbrev pub found : ℕ → List (ℕ × ℕ) → Option ℕ
-found key [] = None
-found key (row ∷ rows) = if row.0 == key then Some row.1 else found key rows
 
 -- no row has the key
 abbrev pub lacks : ℕ → List (ℕ × ℕ) → Bool

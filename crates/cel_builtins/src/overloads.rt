@@ -1,7 +1,8 @@
 ghost use Rattle.std.specs.Prelude.{◌≡◌, ◌<◌, ◌≤◌};
-ghost use Rattle.cel_builtins.specs.Overloads.{number, kind, row as row_of, found};
+ghost use Rattle.cel_builtins.specs.Overloads.{number, kind, row as row_of};
 
 use crate::Function;
+use case_table::value_under;
 use cel_values::Value;
 
 /// Each row is 100 times the function's number, plus 10 times the first argument's kind, plus the second's, and then
@@ -140,16 +141,5 @@ pub fn row(function: Function, first: u32, second: u32) -> Option<u32>
     requires second { second < 10 }
     ensures { result ≡ row_of function first second }
 {
-    find(&OVERLOADS, 100 * number_of(function) + 10 * first + second)
-}
-
-fn find(rows: &[(u32, u32)], key: u32) -> Option<u32>
-    ensures { result ≡ found key rows.now }
-{
-    for row in rows {
-        if row.0 == key {
-            return Some(row.1);
-        }
-    }
-    None
+    value_under(&OVERLOADS, 100 * number_of(function) + 10 * first + second)
 }
