@@ -2,3 +2,4 @@ pub mod Types
 pub mod Rows
 pub mod Rules
 pub mod Typing
+pub mod Nodes

@@ -7,4 +7,4 @@ mod laws;
 
 pub use cel_type::{CelType, Declaration};
 pub use fault::{CheckError, TypeFault, TypeRule};
-pub use laws::check_is_by_the_rules;
+pub use laws::{check_is_by_the_rules, faults_are_numbered_by_the_text};
