@@ -1,5 +1,6 @@
 -- A fault is one of the expression that stands at its number.
-use Rattle.std.proofs.Common.{◌≡◌, ℕ, suc, ◌+◌, true, false, ◌++◌, length, flat_map, slice_get, List, [], ◌∷◌, map, None, Some, Err, refl, sym, ap, ap₂, ◌∙◌, subst, arith, append_assoc, length-append, zero-add, ⊎_elim}
+use Rattle.std.proofs.Common.{◌≡◌, ℕ, suc, ◌+◌, true, false, ◌++◌, length, flat_map, slice_get, List, [], ◌∷◌, map, None, Some, Err, ⊎_elim}
+use Rattle.std.proofs.Common.{refl, sym, ap, ap₂, ◌∙◌, subst, arith, append_assoc, length-append, zero-add}
 use Rattle.cel_values.specs.declared.expr.Expr.{Expr, out-Expr}
 use Rattle.cel_values.specs.declared.expr.Expr.TheViews.{roll-Expr, out-roll-Expr}
 use Rattle.cel_values.specs.declared.expr.Expr.TheOpen.{Expr-F, MapPair-F}
@@ -60,7 +61,8 @@ first s ys = record {
 further : (n start at a b c : ℕ) → n ≡ start + b → start ≡ at + a → c ≡ a + b → n ≡ at + c
 further n start at a b c h k l = omega arith
 
-after : {d : Decls} {start : ℕ} {f : TypeFault} {xs : List Expr} (at : ℕ) (ys : List Expr) → start ≡ at + length ys → Stands d start f xs → Stands d at f (ys ++ xs)
+after : {d : Decls} {start : ℕ} {f : TypeFault} {xs : List Expr} (at : ℕ) (ys : List Expr) → start ≡ at + length ys → Stands d start f xs
+    → Stands d at f (ys ++ xs)
 after {start = start} {f = f} at ys is s = record {
   before = ys ++ s.before;
   node = s.node;
@@ -196,7 +198,8 @@ sized_layer (Expr-F.Not e) = one_more _ _ e.1.sized
 sized_layer (Expr-F.Neg e) = one_more _ _ e.1.sized
 sized_layer (Expr-F.Binary operator a b) = two_more _ _ _ (both_sized (listed a.0).1 (listed b.0).1 _ _ a.1.sized b.1.sized)
 sized_layer (Expr-F.Cond c a b) =
-    three_more _ _ _ _ (both_sized (listed c.0).1 ((listed a.0).1 ++ (listed b.0).1) _ _ c.1.sized (both_sized (listed a.0).1 (listed b.0).1 _ _ a.1.sized b.1.sized))
+    three_more _ _ _ _ (both_sized (listed c.0).1 ((listed a.0).1 ++ (listed b.0).1) _ _ c.1.sized
+      (both_sized (listed a.0).1 (listed b.0).1 _ _ a.1.sized b.1.sized))
 sized_layer (Expr-F.Macro kind range n None p) = two_more _ _ _ (both_sized (listed range.0).1 (listed p.0).1 _ _ range.1.sized p.1.sized)
 sized_layer (Expr-F.Macro kind range n (Some test) p) =
     three_more _ _ _ _ (both_sized (listed range.0).1 ((listed test.0).1 ++ (listed p.0).1) _ _ range.1.sized
@@ -204,7 +207,8 @@ sized_layer (Expr-F.Macro kind range n (Some test) p) =
 
 -- ---- where a fault is
 
-items_placed : (es : List One) (d : Decls) (at : ℕ) (f : TypeFault) → all_of (map typing (map (λ e. e.0) es)) d at ≡ Err f → Stands d at f (of_items es)
+items_placed : (es : List One) (d : Decls) (at : ℕ) (f : TypeFault) → all_of (map typing (map (λ e. e.0) es)) d at ≡ Err f
+    → Stands d at f (of_items es)
 items_placed [] d at f h = no_fault {A = List CelType} [] f h
 items_placed (e ∷ es) d at f h =
     from_fault ((typing e.0).of d at) _ f h (λ k. first (e.1.placed d at f k) (of_items es)) (λ t is k.
@@ -234,7 +238,8 @@ second : {d : Decls} {f : TypeFault} {ys : List Expr} (at : ℕ) (whole : Expr) 
 second at whole e s = after at (whole ∷ (listed e.0).1) (behind_one at whole (listed e.0).1 (typing e.0).nodes e.1.sized) s
 
 -- the part behind a second one
-third : {d : Decls} {f : TypeFault} {ys : List Expr} (at : ℕ) (whole : Expr) (e g : One) → Stands d (at + 1 + (typing e.0).nodes + (typing g.0).nodes) f ys
+third : {d : Decls} {f : TypeFault} {ys : List Expr} (at : ℕ) (whole : Expr) (e g : One)
+    → Stands d (at + 1 + (typing e.0).nodes + (typing g.0).nodes) f ys
     → Stands d at f (whole ∷ ((listed e.0).1 ++ ((listed g.0).1 ++ ys)))
 third at whole e g s =
     second at whole e (after (at + 1 + (typing e.0).nodes) (listed g.0).1 (ap (λ n. at + 1 + (typing e.0).nodes + n) (sym g.1.sized)) s)
@@ -299,7 +304,8 @@ placed_layer (Expr-F.Macro kind range n None p) d at f g h =
     (λ l. second at _ range (bound n t (p.1.placed (with_variable n t d) (at + 1 + (typing range.0).nodes) f l)))
     (λ u is'' l. self (parts (Expr-F.Macro kind range n None p)) d at f _ TypeRule.T3 g (gathered_fault kind at t u f l) refl)))
 placed_layer (Expr-F.Macro kind range n (Some test) p) d at f g h =
-    let own = λ (is : f ≡ broken at TypeRule.T3). self (parts (Expr-F.Macro kind range n (Some test) p)) d at f (rest (Expr-F.Macro kind range n (Some test) p)) TypeRule.T3 g is refl in
+    let y : Expr-F One Pair = Expr-F.Macro kind range n (Some test) p in
+    let own = λ (is : f ≡ broken at TypeRule.T3). self (parts y) d at f (rest y) TypeRule.T3 g is refl in
     from_fault ((typing range.0).of d (at + 1)) _ f h
     (λ k. below at _ (first (range.1.placed d (at + 1) f k) ((listed test.0).1 ++ (listed p.0).1))) (λ r is j.
     from_fault (variable_type at (out-CelType r)) _ f j (λ k. own (variable_fault at (out-CelType r) f k)) (λ t is' k.
@@ -336,16 +342,20 @@ pair_listed y =
 pair_placed : (y : MapPair-F One Pair) (d : Decls) (at : ℕ) (f : TypeFault) → (pair_typing (made y)).of d at ≡ Err f
     → Stands d at f ((listed y.key.0).1 ++ (listed y.value.0).1)
 pair_placed y d at f h =
-    from_fault ((typing y.key.0).of d at) _ f (sym (pair_opened (made y) d at) ∙ h) (λ k. first (y.key.1.placed d at f k) (listed y.value.0).1) (λ t is k.
+    from_fault ((typing y.key.0).of d at) _ f (sym (pair_opened (made y) d at) ∙ h)
+    (λ k. first (y.key.1.placed d at f k) (listed y.value.0).1) (λ t is k.
     from_fault ((typing y.value.0).of d (at + (typing y.key.0).nodes)) _ f k
     (λ l. after at (listed y.key.0).1 (ap (λ n. at + n) (sym y.key.1.sized)) (y.value.1.placed d (at + (typing y.key.0).nodes) f l))
     (λ u is' l. no_fault (t, u) f l))
+
+pair_unfolded : (p : MapPair) → pair_typing p ≡ pair_step (record { key = typing p.key; value = typing p.value })
+pair_unfolded p = fold-roll-MapPair (Typing CelType) (Typing (CelType × CelType)) typing_step pair_step (record { key = p.key; value = p.value })
 
 pair_claims_step : (y : MapPair-F One Pair) → PairClaims (made y)
 pair_claims_step y = record {
   own = ap (λ l. l.0) (pair_listed y);
   sized = ap (λ l. length l.1) (pair_listed y) ∙ (both_sized (listed y.key.0).1 (listed y.value.0).1 _ _ y.key.1.sized y.value.1.sized
-      ∙ sym (ap (λ m. m.nodes) (fold-roll-MapPair (Typing CelType) (Typing (CelType × CelType)) typing_step pair_step (record { key = y.key.0; value = y.value.0 }))));
+      ∙ sym (ap (λ m. m.nodes) (pair_unfolded (made y))));
   placed = λ d at f h. subst (λ l. Stands d at f l.1) (sym (pair_listed y)) (pair_placed y d at f h);
 }
 

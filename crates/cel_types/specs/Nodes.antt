@@ -58,7 +58,7 @@ can_break rule.T3 (Expr-F.Text s) = false
 can_break rule.T3 (Expr-F.Name n) = false
 can_break rule.T3 _ = true
 
--- The fault is one of the expression that stands at its number, under the declarations and the variables of the macros around it.
+-- The fault is one of the expression that stands at its number, under the declarations with others before them, as variables of macros are.
 pub record IsOfNode (d : Decls) (e : Expr) (f : TypeFault) : Type 0 where
   pub node : Expr
   pub variables : Decls

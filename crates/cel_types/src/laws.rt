@@ -18,7 +18,8 @@ pub fn check_is_by_the_rules()
     ensures among { (d : Decls) (e : Tree) (at : ℕ) (f : Fault) → (typing e).of d at ≡ Err f → IsAmong f.node at (at + (typing e).nodes) }
 {}
 
-/// Laws: nodes are numbered in the order of the text, and a fault is one of the expression that stands at its number.
+/// Laws: nodes are numbered in the order of the text, and a fault is one of the expression that stands at its number, whose form can
+/// break the rule.
 pub fn faults_are_numbered_by_the_text()
     ensures nodes { (e : Tree) → (typing e).nodes ≡ length (nodes_of_tree e) }
     ensures stands { (d : Decls) (e : Tree) (f : Fault) → checked d e ≡ Err f → IsOfNode d e f }
