@@ -39,16 +39,17 @@ pub selects_answer : (at : ℕ) (r t : CelType) → Selects r t → selected_typ
 selects_answer at r t (of_map u) = ap (selected_type at) (out_map u)
 selects_answer at r t of_dyn = ap (selected_type at) out_dyn
 
-dyn_answer : (at : ℕ) (u : CelType) (b : Bool) (o : OrFault CelType) → o ≡ Ok CelType.Dyn → (if b then Ok CelType.Dyn else o) ≡ Ok CelType.Dyn
-dyn_answer at u true o h = refl
-dyn_answer at u false o h = h
+dyn_answer : (b : Bool) (o : OrFault CelType) → o ≡ Ok CelType.Dyn → (if b then Ok CelType.Dyn else o) ≡ Ok CelType.Dyn
+dyn_answer true o h = refl
+dyn_answer false o h = h
 
 pub indexes_answer : (at : ℕ) (r u t : CelType) → Indexes r u t → index_type at (out-CelType r) u ≡ Ok t
 indexes_answer at r u t (at_number v h) = ap (λ x. index_type at x u) (out_list v) ∙ fits_answer at u CelType.Int v h
 indexes_answer at r u t (at_key v h) = ap (λ x. index_type at x u) (out_map v) ∙ fits_answer at u CelType.Text v h
 indexes_answer at r u t (dyn_at_number h) = ap (λ x. index_type at x u) out_dyn ∙ test_ok (fits u CelType.Int) (Ok CelType.Dyn) _ h
 indexes_answer at r u t (dyn_at_key h) =
-    ap (λ x. index_type at x u) out_dyn ∙ dyn_answer at u (fits u CelType.Int) (where_fits at u CelType.Text CelType.Dyn) (fits_answer at u CelType.Text CelType.Dyn h)
+    ap (λ x. index_type at x u) out_dyn
+    ∙ dyn_answer (fits u CelType.Int) (where_fits at u CelType.Text CelType.Dyn) (fits_answer at u CelType.Text CelType.Dyn h)
 
 within_answer : (at : ℕ) (u r : CelType) → LiesIn u r → within_type at u (out-CelType r) ≡ Ok CelType.Bool
 within_answer at u r (in_list v) = ap (within_type at u) (out_list v)
@@ -182,7 +183,8 @@ ranges_from at r t h = subst (λ x. Ranges x t) (roll-out-CelType r) (ranges_lay
 pub gathers_from : (kind : MacroKind) (at : ℕ) (t u v : CelType) → gathered_type kind at t u ≡ Ok v → Gathers kind t u v
 gathers_from MacroKind.All at t u v h = from_fits at u CelType.Bool CelType.Bool v h (λ k is. subst (Gathers MacroKind.All t u) is (by_all k))
 gathers_from MacroKind.Exists at t u v h = from_fits at u CelType.Bool CelType.Bool v h (λ k is. subst (Gathers MacroKind.Exists t u) is (by_exists k))
-gathers_from MacroKind.ExistsOne at t u v h = from_fits at u CelType.Bool CelType.Bool v h (λ k is. subst (Gathers MacroKind.ExistsOne t u) is (by_exists_one k))
+gathers_from MacroKind.ExistsOne at t u v h = from_fits at u CelType.Bool CelType.Bool v h (λ k is.
+    subst (Gathers MacroKind.ExistsOne t u) is (by_exists_one k))
 gathers_from MacroKind.Filter at t u v h = from_fits at u CelType.Bool (types.List t) v h (λ k is. subst (Gathers MacroKind.Filter t u) is (by_filter k))
 gathers_from MacroKind.Map at t u v h = ends (Gathers MacroKind.Map t u) (types.List u) v h by_map
 

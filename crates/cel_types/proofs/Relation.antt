@@ -15,7 +15,8 @@ use Rattle.cel_types.specs.declared.fault.TypeFault.{TypeFault}
 use Rattle.cel_types.specs.declared.fault.TypeRule.{TypeRule}
 use Rattle.cel_types.specs.Types.{fits, join, join_all, all_fit}
 use Rattle.cel_types.specs.Rows.{one_type}
-use Rattle.cel_types.specs.Rules.{Decls, declared, with_variable, arguments, is_member, IsAny, HasType, Typed, AllTyped, no_items, item, PairsTyped, no_pairs, pair}
+use Rattle.cel_types.specs.Rules.{Decls, declared, with_variable, arguments, is_member, IsAny, HasType, Typed, AllTyped, no_items, item}
+use Rattle.cel_types.specs.Rules.{PairsTyped, no_pairs, pair}
 use Rattle.cel_types.specs.Rules.{null, bool, int, text, name, list, literal_map, select, has, index, call, not, neg, binary, choice, over, over_tested}
 use Rattle.cel_types.specs.Typing.{OrFault, broken, where_fits, selected_type, presence_type, index_type, operator_type, choice_type, call_type}
 use Rattle.cel_types.specs.Typing.{literal_map_type, variable_type, gathered_type, all_of, typing}

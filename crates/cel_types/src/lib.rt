@@ -15,4 +15,4 @@ pub use cel_type::{CelType, Declaration};
 pub use checker::check;
 pub use copying::copy_type;
 pub use fault::{CheckError, TypeFault, TypeRule};
-pub use laws::check_is_by_the_rules;
+pub use laws::{check_is_by_the_rules, faults_are_numbered_by_the_text};
