@@ -27,10 +27,12 @@ use Rattle.service_view.specs.Puts.{put_fault}
 abbrev pub knows_word : Content → List ℕ → Bool
 knows_word c word = knows_scope c.view.lists word
 
+-- the rule that a result fails
 abbrev pub fault_of : {X : Type 0} → Result X RuleCode → Option RuleCode
 fault_of (Ok x) = None
 fault_of (Err rule) = Some rule
 
+-- the chain's token has over 8,192 bytes
 abbrev pub is_long : Content → Option Chain → Bool
 is_long c None = true
 is_long c (Some chain) = nat_lt 8192 (length (token_text c chain))
@@ -49,6 +51,7 @@ first_unlicensed c (entry.Federated x) = first_of (
     fault_of (source_at c x.provider x.token x.at) ∷
     fails_if (is_long c (made c (entry.Federated x))) E25 ∷ [])
 
+-- no rule forbids recording the entry
 abbrev pub Licensed : Content → Entry → Type 0
 Licensed c e = first_unlicensed c e ≡ None
 

@@ -12,6 +12,7 @@ use Rattle.links.specs.Facts.{facts_of}
 abbrev pub held_kind : Chain → RecordedKind
 held_kind (Root o source) = held.Federated source.exp
 
+-- what is held of the last link of a chain
 abbrev pub recorded : Chain → RecordedLink
 recorded chain = record { kind = held_kind chain; facts = facts_of chain }
 
@@ -19,6 +20,7 @@ recorded chain = record { kind = held_kind chain; facts = facts_of chain }
 abbrev pub kind_of : RecordedKind → Facts → Kind
 kind_of (held.Federated exp) facts = Kind.Federated (record { who = facts.who; exp = exp; may_act = facts.may_act })
 
+-- the link of which this row is held
 abbrev pub link_of_recorded : RecordedLink → Link
 link_of_recorded row = record { at = row.facts.iat; words = last_words row.facts.scopes; kind = kind_of row.kind row.facts }
 
