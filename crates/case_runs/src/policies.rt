@@ -1,8 +1,8 @@
 use crate::escapes::yes_or_no;
 use crate::inputs::Inputs;
 use allow_policy::{
-    Binding, Policies, PutFault, ScopeSet, granted, knows_scope, put_role, put_scope, scope_allows,
-    set,
+    Binding, Policies, PutFault, ScopeSet, granted, knows_scope, put_policy, put_role, put_scope,
+    scope_allows,
 };
 use base_types::Items;
 use iam_names::{Account, Member, NameError, Permission, Resource, Role, ScopeWord, Who};
@@ -57,7 +57,7 @@ fn put_one_policy(alloc: Global, kept: &mut Policies, inputs: &Inputs) -> Result
     let role = Role::read(alloc, inputs.text(2))?;
     let mut bindings = Items::new(alloc);
     bindings.push(Binding { role, members })?;
-    Ok(set(kept, Resource::read(alloc, inputs.text(4))?, bindings)?)
+    Ok(put_policy(kept, Resource::read(alloc, inputs.text(4))?, bindings)?)
 }
 
 fn is_granted(alloc: Global, inputs: &Inputs) -> Result<bool, Stopped> {
