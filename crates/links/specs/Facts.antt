@@ -23,10 +23,6 @@ act_of (Root o source) = []
 abbrev pub may_act_of : Chain → List (List ℕ)
 may_act_of (Root o source) = source.may_act
 
--- how many links there are on the longest way to an outside token
-abbrev pub depth_of : Chain → ℕ
-depth_of (Root o source) = 1
-
 -- the pool of an identity
 abbrev pub pools_in : Who → List PoolName
 pools_in (Outside pool identity) = pool ∷ []

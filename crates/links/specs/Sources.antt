@@ -27,6 +27,7 @@ use Rattle.links.specs.declared.source.Source.{Source}
 
 -- ---- the signature and the claims
 
+-- the payload, where its token fails no rule of signed texts
 abbrev pub opened_by : Option JwsFault → List ℕ → Result (List ℕ) RuleCode
 opened_by None payload = Ok payload
 opened_by (Some fault) payload = Err (E16 fault)
@@ -35,6 +36,7 @@ opened_by (Some fault) payload = Err (E16 fault)
 abbrev pub opened : List ℕ → List ℕ → Result (List ℕ) RuleCode
 opened key token = opened_by (first_jws_fault key token) (payload_of token)
 
+-- the claims, where the payload has some
 abbrev pub claimed_by : Result Claims ClaimFault → Result Claims RuleCode
 claimed_by (Ok claims) = Ok claims
 claimed_by (Err fault) = Err (E17 fault)
@@ -45,9 +47,11 @@ claimed_by (Err fault) = Err (E17 fault)
 abbrev pub is_acceptable : List ℕ → List ℕ → Bool
 is_acceptable name audience = bytes_eq audience name || bytes_eq audience (codes "https:" ++ name)
 
+-- whether one of the audiences names the provider
 abbrev pub accepts : StartProvider → List (List ℕ) → Bool
 accepts provider audiences = list_any (is_acceptable (audience_text (provider_name provider))) audiences
 
+-- the rule that a token fails that is not live
 abbrev pub timing_fault : When → Option RuleCode
 timing_fault Live = None
 timing_fault IsExpired = Some (E18 Expired)
@@ -58,6 +62,7 @@ abbrev pub value_in : List MapEntry → List ℕ → Option Value
 value_in [] key = None
 value_in (entry ∷ entries) key = if bytes_eq entry.key key then Some entry.value else value_in entries key
 
+-- the text that a value is
 abbrev pub text_of_value : Value → Option (List ℕ)
 text_of_value v = text (out-Value v)
   where
@@ -65,6 +70,7 @@ text_of_value v = text (out-Value v)
     text (Value-F.Text t) = Some t
     text _ = None
 
+-- what an object has under a key
 abbrev pub value_under : Value → List ℕ → Option Value
 value_under v key = under (out-Value v)
   where
@@ -90,6 +96,7 @@ first_admission_fault provider claims now = first_of (
     fails_if (not (accepts provider claims.aud)) (E18 NoAudience) ∷
     timing_fault (timing_of claims now) ∷ [])
 
+-- what comes next, where no rule fails
 abbrev pub passed : {X : Type 0} → Option RuleCode → Result X RuleCode → Result X RuleCode
 passed None next = next
 passed (Some rule) next = Err rule
@@ -107,6 +114,7 @@ who_of_claims provider claims now =
 abbrev pub source_by : Claims → Who → Source
 source_by claims who = record { who = who; exp = claims.exp; may_act = claims.may_act }
 
+-- what claims give, or the first rule that they fail
 unfoldable pub source_of_claims : StartProvider → Claims → ℕ → Result Source RuleCode
 source_of_claims provider claims now = who_of_claims provider claims now >>= (λ who. Ok (source_by claims who))
 

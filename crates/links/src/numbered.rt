@@ -58,7 +58,8 @@ pub fn words_of(state: &State, number: u32) -> &[ScopeWord]
 /// The payload of the link's token.
 pub fn payload_of(alloc: Global, state: &State, number: u32) -> Result<Text, AllocError>
     requires { number < length state.now.content.links }
-    ensures { IfOk result (λ payload. option_map (λ found. payload_text state.now.content.issuer (facts_in found)) (chain state.now.content number) ≡ Some payload) }
+    ensures { IfOk result (λ payload. option_map (λ found. payload_text state.now.content.issuer (facts_in found)) (chain state.now.content number)
+        ≡ Some payload) }
 {
     write_payload(alloc, state.issuer(), facts_of(state, number))
 }

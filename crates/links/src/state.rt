@@ -38,7 +38,14 @@ impl Model for State {
     } };
 
     ghost invariant = { λ s. (vec_len s.links ≤ s.count) × AreHeld (map link_of_recorded s.links.items) s.links.items
-        × Reached (record { issuer = s.issuer; key = s.key; start = s.start; view = s.view.content; count = s.count; links = map link_of_recorded s.links.items }) };
+        × Reached (record {
+          issuer = s.issuer;
+          key = s.key;
+          start = s.start;
+          view = s.view.content;
+          count = s.count;
+          links = map link_of_recorded s.links.items;
+        }) };
 }
 
 /// The state of a configuration before the first entry: the provider's pool is there, enabled, and the scope word for all
