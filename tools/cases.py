@@ -28,7 +28,7 @@ def add(want, path, bearer, at, body):
 # What a provider and the service sign.
 
 def claims(**changes):
-    """The claims of an outside token; one that is None is left out."""
+    """The claims of a subject token; one that is None is left out."""
     made = dict({'iss': START['issuer'], 'sub': SUBJECT, 'aud': NAME, 'exp': AT + 900, 'iat': AT}, **changes)
     return {name: value for name, value in made.items() if value is not None}
 
@@ -131,7 +131,7 @@ asks('inactive', 'token=a', at=200000000000, path='/v1/introspect?token=b')
 asks('inactive', 'token=' + 'a' * 65530, at=0)
 asks('inactive', 'token=a\n', at=0)
 
-# The subject, the size of the token, and the moments of an outside token.
+# The subject, the size of the token, and the moments of a subject token.
 exchange('issued', subject(claims(sub='s' * 127)))
 exchange('E19 TooLong google.subject', subject(claims(sub='s' * 128)))
 exchange('E19 Subject', subject(claims(sub=None)))

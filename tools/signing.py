@@ -1,6 +1,6 @@
 """Signs tokens (HS256) and writes the frames of a script, with Python's standard library alone.
 
-usage: python3 tools/signing.py CONFIG exchange SUBJECT [AT]              an outside token of the configuration's provider, exchanged
+usage: python3 tools/signing.py CONFIG exchange SUBJECT [AT]              a subject token of the configuration's provider, exchanged
        python3 tools/signing.py CONFIG introspect TOKEN [AT]
        python3 tools/signing.py CONFIG check TOKEN PERMISSION RESOURCE [AT]
        python3 tools/signing.py CONFIG admin COMMAND [AT]                 COMMAND is a JSON object

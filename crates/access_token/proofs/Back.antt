@@ -9,8 +9,8 @@ use Rattle.std.proofs.lemmas.List.Sums.{AllPass-from_list_all}
 use Rattle.std.proofs.lemmas.Fmt.{decimal_is_IsNumeral}
 use Rattle.std.proofs.lemmas.List.Splits.{slice_split_none, slice_split_at}
 use Rattle.serde_json.specs.Data.{Data, number, unsigned, string, object, no_members, member}
-use Rattle.serde_json.specs.Find.{get}
 use Rattle.base_types.specs.Forms.{has_size}
+use Rattle.json_text.specs.Arrays.{each}
 use Rattle.json_text.specs.Document.{item_texts}
 use Rattle.base_types.specs.Reading.{◌>>=◌}
 use Rattle.iam_names.specs.Forms.{is_plain_byte, is_scope_word, is_account}
@@ -20,18 +20,20 @@ use Rattle.iam_names.specs.declared.who.Who.{Who}
 use Rattle.iam_names.specs.declared.who.Who.TheVariants.{Outside, Account}
 use Rattle.iam_names.proofs.ReadBackLemmas.{pool_of_text-pool_text}
 use Rattle.access_token.specs.declared.facts.Facts.{Facts}
+use Rattle.access_token.specs.declared.parties.Parties.{Parties}
+use Rattle.access_token.specs.declared.wif.Wif.{Wif}
 use Rattle.access_token.specs.Forms.{is_name, is_attribute, is_who, is_identity, are_words}
 use Rattle.access_token.specs.Payload.{optional, items, nested, words_text, last_words, attributes_data, who_data, wif_data, payload_data}
-use Rattle.access_token.specs.Parts.{formed, each_item, list_at, names_in, account_in, pool_in, scope_in, scopes_in, attributes_in, outside_in, who_in, facts_in}
+use Rattle.access_token.specs.Parts.{formed, names_in, account_in, pool_in, scope_in, attributes_in, outside_in, who_in, parties_in, wif_in, facts_in}
 use Rattle.access_token.proofs.Formed.{AreFormed}
 use Rattle.access_token.proofs.Options.{both, formed-some}
 
 -- a list whose items read back reads back
-each_back : {A : Type 0} (write : A → Data) (read : Data → Option A) (test : A → Bool) → ((x : A) → test x ≡ true → read (write x) ≡ Some x) → (xs : List A) → list_all test xs ≡ true → each_item read (items write xs) ≡ Some xs
+each_back : {A : Type 0} (write : A → Data) (read : Data → Option A) (test : A → Bool) → ((x : A) → test x ≡ true → read (write x) ≡ Some x) → (xs : List A) → list_all test xs ≡ true → each read (items write xs) ≡ Some xs
 each_back write read test back [] all = refl
 each_back write read test back (x ∷ xs) all =
     let parts = both (test x) (list_all test xs) all in
-    ap (λ (o : Option _). option_and_then (λ y. option_map (λ ys. y ∷ ys) (each_item read (items write xs))) o) (back x parts.0)
+    ap (λ (o : Option _). option_and_then (λ y. option_map (λ ys. y ∷ ys) (each read (items write xs))) o) (back x parts.0)
     ∙ ap (λ (o : Option (List _)). option_map (λ ys. x ∷ ys) o) (each_back write read test back xs parts.1)
 
 texts_back : (xs : List (List ℕ)) → item_texts (items string xs) ≡ Some xs
@@ -114,45 +116,46 @@ who_back (Account account) h = rw h refl
 abbrev Texts : Type 0
 Texts = List (List ℕ)
 
--- the facts of the parts that are there
-abbrev joined : Option Texts → Option ℕ → Option ℕ → Option ℕ → Option Texts → Option (List ℕ) → Data → Option Facts
-joined act_there exp_there iat_there number_there may_act_there sub_there wif = do
+-- the parties of the parts that are there
+abbrev parties_of : Option Texts → Option Texts → Option (List ℕ) → Option Parties
+parties_of act_there may_act_there sub_there = do
   act ← act_there
+  may_act ← may_act_there
+  sub ← sub_there
+  Some (record { sub = sub; act = act; may_act = may_act })
+
+-- the facts of the parts that are there
+abbrev joined : Option ℕ → Option ℕ → Option ℕ → Option Parties → Option Wif → Option Facts
+joined exp_there iat_there number_there parties_there wif_there = do
   exp ← exp_there
   iat ← iat_there
   whole ← number_there
-  may_act ← may_act_there
-  sub ← sub_there
-  accounts ← list_at account_in (codes "accounts") wif
-  pools ← list_at pool_in (codes "pools") wif
-  scopes ← scopes_in wif
-  who ← option_and_then who_in (get (codes "who") wif)
-  Some (record { number = whole; sub = sub; iat = iat; exp = exp; act = act; may_act = may_act; who = who; pools = pools; accounts = accounts; scopes = scopes })
+  parties ← parties_there
+  wif ← wif_there
+  Some (record { number = whole; sub = parties.sub; iat = iat; exp = exp; act = parties.act; may_act = parties.may_act; who = wif.who; pools = wif.pools; accounts = wif.accounts; scopes = wif.scopes })
 
--- an optional member's names, each of its form
-abbrev formed_names : List ℕ → (List ℕ → Bool) → Option Data → Option Texts
-formed_names name form there = formed (list_all form) (names_in name 8 there)
-
-joined_back : (facts : Facts) (act may_act : Option Texts) → AreFormed facts → act ≡ Some facts.act → may_act ≡ Some facts.may_act
-    → joined act (formed (λ seconds. nat_lt seconds (2 ^ 53)) (Some facts.exp)) (formed (λ seconds. nat_lt seconds (2 ^ 53)) (Some facts.iat))
-    (formed (λ n. nat_lt n (2 ^ 32)) (Some (digits_value 10 (decimal facts.number)))) may_act (formed is_name (Some facts.sub)) (wif_data facts) ≡ Some facts
-unfolding wif_data
-joined_back facts act may_act is act_is may_act_is =
-    let written : digits_value 10 (decimal facts.number) ≡ facts.number = (decimal_is_IsNumeral facts.number (omega (arith, (Decides-ltb facts.number (2 ^ 32)).0 is.number))).1 in
+wif_back : (facts : Facts) → AreFormed facts → wif_in (wif_data facts) ≡ Some (record { who = facts.who; pools = facts.pools; accounts = facts.accounts; scopes = facts.scopes })
+unfolding wif_in wif_data
+wif_back facts is =
     rw (
-      act_is,
-      is.exp,
-      is.iat,
-      written,
-      is.number,
-      may_act_is,
-      is.sub,
       each_back string account_in is_account account_back facts.accounts is.accounts,
       each_back (λ pool. string (pool_text pool)) pool_in is_pool_name pool_back facts.pools is.pools,
       each_back (λ words. string (words_text words)) scope_in are_words scope_back facts.scopes is.scopes,
       is.scopes_some,
       who_back facts.who is.who,
     ) refl
+
+-- an optional member's names, each of its form
+abbrev formed_names : List ℕ → (List ℕ → Bool) → Option Data → Option Texts
+formed_names name form there = formed (list_all form) (names_in name 8 there)
+
+joined_back : (facts : Facts) (act may_act : Option Texts) → AreFormed facts → act ≡ Some facts.act → may_act ≡ Some facts.may_act
+    → joined (formed (λ seconds. nat_lt seconds (2 ^ 53)) (Some facts.exp)) (formed (λ seconds. nat_lt seconds (2 ^ 53)) (Some facts.iat))
+    (formed (λ n. nat_lt n (2 ^ 32)) (Some (digits_value 10 (decimal facts.number)))) (parties_of act may_act (formed is_name (Some facts.sub)))
+    (wif_in (wif_data facts)) ≡ Some facts
+joined_back facts act may_act is act_is may_act_is =
+    let written : digits_value 10 (decimal facts.number) ≡ facts.number = (decimal_is_IsNumeral facts.number (omega (arith, (Decides-ltb facts.number (2 ^ 32)).0 is.number))).1 in
+    rw (is.exp, is.iat, written, is.number, act_is, may_act_is, is.sub, wif_back facts is) refl
 
 -- a payload's tree, with the two optional members, the scope and the subject aside
 tree : List ℕ → Facts → Option Data → Option Data → List ℕ → Data
@@ -170,7 +173,7 @@ tree issuer facts act may_act scope = object (
 tree_back : (issuer : List ℕ) (facts : Facts) (act may_act : Option Data) (scope : List ℕ) → AreFormed facts
     → formed_names (codes "act") is_name act ≡ Some facts.act → formed_names (codes "may_act") (has_size 1 1024) may_act ≡ Some facts.may_act
     → facts_in (tree issuer facts act may_act scope) ≡ Some facts
-unfolding tree facts_in
+unfolding tree parties_in facts_in
 tree_back issuer facts None None scope is a m = joined_back facts (formed_names (codes "act") is_name None) (formed_names (codes "may_act") (has_size 1 1024) None) is a m
 tree_back issuer facts None (Some may) scope is a m = joined_back facts (formed_names (codes "act") is_name None) (formed_names (codes "may_act") (has_size 1 1024) (Some may)) is a m
 tree_back issuer facts (Some actor) None scope is a m = joined_back facts (formed_names (codes "act") is_name (Some actor)) (formed_names (codes "may_act") (has_size 1 1024) None) is a m

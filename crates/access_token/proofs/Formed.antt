@@ -6,6 +6,7 @@ use Rattle.std.proofs.lemmas.Bool.{le-leb}
 use Rattle.std.proofs.lemmas.Option.{same_Some, cond_some, option_and_then_some}
 use Rattle.serde_json.specs.Data.{Data, Items, Members, no_items, item, no_members, member}
 use Rattle.serde_json.specs.Find.{get, as_str, as_array, as_object}
+use Rattle.json_text.specs.Arrays.{each, list_at}
 use Rattle.json_text.specs.Document.{text_at, texts_at, whole_number_at}
 use Rattle.base_types.specs.Forms.{passing, has_size}
 use Rattle.base_types.specs.Reading.{◌>>=◌}
@@ -16,24 +17,26 @@ use Rattle.iam_names.specs.declared.pool_name.PoolName.{PoolName}
 use Rattle.iam_names.specs.declared.who.Who.{Who}
 use Rattle.iam_names.specs.declared.who.Who.TheVariants.{Account}
 use Rattle.access_token.specs.declared.facts.Facts.{Facts}
+use Rattle.access_token.specs.declared.parties.Parties.{Parties}
+use Rattle.access_token.specs.declared.wif.Wif.{Wif}
 use Rattle.access_token.specs.Forms.{is_name, is_attribute, is_who, are_words, is_facts}
-use Rattle.access_token.specs.Parts.{formed, each_item, list_at, names_in, act_in, may_act_in, date_in, number_in, sub_in, account_in, scope_in, scopes_in, pool_in, attributes_in, attributes_at, groups_at, pool_at, subject_at, outside_in, who_by, who_in, facts_in}
+use Rattle.access_token.specs.Parts.{formed, names_in, act_in, may_act_in, date_in, number_in, sub_in, account_in, scope_in, scopes_in, pool_in, attributes_in, attributes_at, groups_at, pool_at, subject_at, outside_in, who_by, who_in, parties_in, wif_in, facts_in}
 use Rattle.access_token.proofs.Options.{formed-is, option_map_some, bound, all-more}
 
 -- ---- lists
 
 each-all : {A : Type 0} (form : A → Bool) (read : Data → Option A) → ((d : Data) (x : A) → read d ≡ Some x → form x ≡ true)
-    → (ds : Items) (xs : List A) → each_item read ds ≡ Some xs → list_all form xs ≡ true
+    → (ds : Items) (xs : List A) → each read ds ≡ Some xs → list_all form xs ≡ true
 each-all form read is no_items xs h = ap (list_all form) (sym (same_Some [] xs h))
 each-all form read is (item d ds) xs h =
-    option_and_then_some (λ x. option_map (λ more. x ∷ more) (each_item read ds)) (read d) xs h (λ x there k.
-    option_map_some (λ more. x ∷ more) (each_item read ds) xs k (λ more rest whole.
+    option_and_then_some (λ x. option_map (λ more. x ∷ more) (each read ds)) (read d) xs h (λ x there k.
+    option_map_some (λ more. x ∷ more) (each read ds) xs k (λ more rest whole.
     ap (list_all form) (sym whole) ∙ all-more form x more (is d x there) (each-all form read is ds more rest)))
 
 list-all : {A : Type 0} (form : A → Bool) (read : Data → Option A) → ((d : Data) (x : A) → read d ≡ Some x → form x ≡ true)
     → (name : List ℕ) (d : Data) (xs : List A) → list_at read name d ≡ Some xs → list_all form xs ≡ true
 list-all form read is name d xs h =
-    option_and_then_some (each_item read) (option_and_then as_array (get name d)) xs h (λ ds there k. each-all form read is ds xs k)
+    option_and_then_some (each read) (option_and_then as_array (get name d)) xs h (λ ds there k. each-all form read is ds xs k)
 
 names-few : (name : List ℕ) (n : ℕ) (o : Option Data) (names : List (List ℕ)) → names_in name n o ≡ Some names → length names ≤ n
 names-few name n None names h = omega (arith, ap length (same_Some [] names h))
@@ -117,36 +120,79 @@ is_date seconds = nat_lt seconds (2 ^ 53)
 scope_in-is : (d : Data) (words : List (List ℕ)) → scope_in d ≡ Some words → are_words words ≡ true
 scope_in-is d words h = (formed-is are_words (option_map (slice_split (λ byte. byte == 32)) (as_str d)) words h).1
 
-pub facts_in-is : (d : Data) (facts : Facts) → facts_in d ≡ Some facts → is_facts facts ≡ true
-unfolding facts_in
-facts_in-is d facts h =
-    bound _ (act_in d) facts h (λ act act_is h.
-    bound _ (date_in (codes "exp") d) facts h (λ exp exp_is h.
-    bound _ (date_in (codes "iat") d) facts h (λ iat iat_is h.
-    bound _ (number_in d) facts h (λ number number_is h.
-    bound _ (may_act_in d) facts h (λ may_act may_act_is h.
-    bound _ (sub_in d) facts h (λ sub sub_is h.
-    bound _ (get (codes "wif") d) facts h (λ wif wif_is h.
-    bound _ (list_at account_in (codes "accounts") wif) facts h (λ accounts accounts_is h.
-    bound _ (list_at pool_in (codes "pools") wif) facts h (λ pools pools_is h.
-    bound _ (scopes_in wif) facts h (λ scopes scopes_is h.
-    bound _ (option_and_then who_in (get (codes "who") wif)) facts h (λ who who_is h.
+-- the form of each name of the parties
+record AreFormedParties (parties : Parties) : Type 0 where
+  sub : is_name parties.sub ≡ true
+  act_few : nat_le (length parties.act) 8 ≡ true
+  act : list_all is_name parties.act ≡ true
+  may_act_few : nat_le (length parties.may_act) 8 ≡ true
+  may_act : list_all (has_size 1 1024) parties.may_act ≡ true
+
+parties_in-is : (d : Data) (parties : Parties) → parties_in d ≡ Some parties → AreFormedParties parties
+unfolding parties_in
+parties_in-is d parties h =
+    bound _ (act_in d) parties h (λ act act_is h.
+    bound _ (may_act_in d) parties h (λ may_act may_act_is h.
+    bound _ (sub_in d) parties h (λ sub sub_is h.
     let names = formed-is (list_all is_name) (names_in (codes "act") 8 (get (codes "act") d)) act act_is in
     let actors = formed-is (list_all (has_size 1 1024)) (names_in (codes "may_act") 8 (get (codes "may_act") d)) may_act may_act_is in
-    let some = formed-is (λ scopes. nat_le 1 (length scopes)) (list_at scope_in (codes "scopes") wif) scopes scopes_is in
-    let told : AreFormed (record { number = number; sub = sub; iat = iat; exp = exp; act = act; may_act = may_act; who = who; pools = pools; accounts = accounts; scopes = scopes }) = record {
-      number = (formed-is (λ n. nat_lt n (2 ^ 32)) (option_map (digits_value 10) (text_at (codes "jti") d)) number number_is).1;
+    let told : AreFormedParties (record { sub = sub; act = act; may_act = may_act }) = record {
       sub = (formed-is is_name (text_at (codes "sub") d) sub sub_is).1;
-      iat = (formed-is is_date (whole_number_at (codes "iat") d) iat iat_is).1;
-      exp = (formed-is is_date (whole_number_at (codes "exp") d) exp exp_is).1;
-      who = option_and_then_some who_in (get (codes "who") wif) who who_is (λ e there k. who_in-is e who k);
       act_few = le-leb (length act) 8 (names-few (codes "act") 8 (get (codes "act") d) act names.0);
       act = names.1;
       may_act_few = le-leb (length may_act) 8 (names-few (codes "may_act") 8 (get (codes "may_act") d) may_act actors.0);
       may_act = actors.1;
-      pools = list-all is_pool_name pool_in pool_in-is (codes "pools") wif pools pools_is;
-      accounts = list-all is_account account_in (λ e account k. (formed-is is_account (as_str e) account k).1) (codes "accounts") wif accounts accounts_is;
-      scopes_some = some.1;
-      scopes = list-all are_words scope_in scope_in-is (codes "scopes") wif scopes some.0;
     } in
-    ap is_facts (sym (same_Some _ facts h)) ∙ is_facts-from _ told)))))))))))
+    rw (← same_Some _ parties h) told)))
+
+-- the form of each part of the claim `wif`
+record IsFormedWif (wif : Wif) : Type 0 where
+  who : is_who wif.who ≡ true
+  pools : list_all is_pool_name wif.pools ≡ true
+  accounts : list_all is_account wif.accounts ≡ true
+  scopes_some : nat_le 1 (length wif.scopes) ≡ true
+  scopes : list_all are_words wif.scopes ≡ true
+
+wif_in-is : (d : Data) (wif : Wif) → wif_in d ≡ Some wif → IsFormedWif wif
+unfolding wif_in
+wif_in-is d wif h =
+    bound _ (list_at account_in (codes "accounts") d) wif h (λ accounts accounts_is h.
+    bound _ (list_at pool_in (codes "pools") d) wif h (λ pools pools_is h.
+    bound _ (scopes_in d) wif h (λ scopes scopes_is h.
+    bound _ (option_and_then who_in (get (codes "who") d)) wif h (λ who who_is h.
+    let some = formed-is (λ scopes. nat_le 1 (length scopes)) (list_at scope_in (codes "scopes") d) scopes scopes_is in
+    let told : IsFormedWif (record { who = who; pools = pools; accounts = accounts; scopes = scopes }) = record {
+      who = option_and_then_some who_in (get (codes "who") d) who who_is (λ e there k. who_in-is e who k);
+      pools = list-all is_pool_name pool_in pool_in-is (codes "pools") d pools pools_is;
+      accounts = list-all is_account account_in (λ e account k. (formed-is is_account (as_str e) account k).1) (codes "accounts") d accounts accounts_is;
+      scopes_some = some.1;
+      scopes = list-all are_words scope_in scope_in-is (codes "scopes") d scopes some.0;
+    } in
+    rw (← same_Some _ wif h) told))))
+
+pub facts_in-is : (d : Data) (facts : Facts) → facts_in d ≡ Some facts → is_facts facts ≡ true
+unfolding facts_in
+facts_in-is d facts h =
+    bound _ (date_in (codes "exp") d) facts h (λ exp exp_is h.
+    bound _ (date_in (codes "iat") d) facts h (λ iat iat_is h.
+    bound _ (number_in d) facts h (λ number number_is h.
+    bound _ (parties_in d) facts h (λ parties parties_is h.
+    bound _ (option_and_then wif_in (get (codes "wif") d)) facts h (λ wif wif_is h.
+    let named = parties_in-is d parties parties_is in
+    let used : IsFormedWif wif = option_and_then_some wif_in (get (codes "wif") d) wif wif_is (λ e there k. wif_in-is e wif k) in
+    let told : AreFormed (record { number = number; sub = parties.sub; iat = iat; exp = exp; act = parties.act; may_act = parties.may_act; who = wif.who; pools = wif.pools; accounts = wif.accounts; scopes = wif.scopes }) = record {
+      number = (formed-is (λ n. nat_lt n (2 ^ 32)) (option_map (digits_value 10) (text_at (codes "jti") d)) number number_is).1;
+      sub = named.sub;
+      iat = (formed-is is_date (whole_number_at (codes "iat") d) iat iat_is).1;
+      exp = (formed-is is_date (whole_number_at (codes "exp") d) exp exp_is).1;
+      who = used.who;
+      act_few = named.act_few;
+      act = named.act;
+      may_act_few = named.may_act_few;
+      may_act = named.may_act;
+      pools = used.pools;
+      accounts = used.accounts;
+      scopes_some = used.scopes_some;
+      scopes = used.scopes;
+    } in
+    ap is_facts (sym (same_Some _ facts h)) ∙ is_facts-from _ told)))))

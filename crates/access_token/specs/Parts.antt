@@ -2,8 +2,9 @@
 use Rattle.std.specs.Prelude.{ℕ, zero, suc, ◌^◌, ◌==◌, Bool, List, [], ◌∷◌, length, Option, None, Some, option_map, option_and_then, nat_le, nat_lt, codes}
 use Rattle.std.specs.List.{list_all, slice_split}
 use Rattle.std.specs.Str.Parse.{digits_value}
-use Rattle.serde_json.specs.Data.{Data, Items, Members, no_items, item, no_members, member}
-use Rattle.serde_json.specs.Find.{get, as_str, as_array, as_object}
+use Rattle.serde_json.specs.Data.{Data, Members, no_members, member}
+use Rattle.serde_json.specs.Find.{get, as_str, as_object}
+use Rattle.json_text.specs.Arrays.{list_at}
 use Rattle.json_text.specs.Document.{text_at, texts_at, whole_number_at}
 use Rattle.base_types.specs.Forms.{passing, has_size}
 use Rattle.base_types.specs.Reading.{◌>>=◌}
@@ -12,21 +13,14 @@ use Rattle.iam_names.specs.PoolName.{pool_of_text}
 use Rattle.iam_names.specs.declared.pool_name.PoolName.{PoolName}
 use Rattle.iam_names.specs.declared.who.Who.{Who}
 use Rattle.iam_names.specs.declared.who.Who.TheVariants.{Outside, Account}
+use Rattle.access_token.specs.declared.parties.Parties.{Parties}
 use Rattle.access_token.specs.declared.facts.Facts.{Facts}
+use Rattle.access_token.specs.declared.wif.Wif.{Wif}
 use Rattle.access_token.specs.Forms.{is_name, is_attribute, are_words}
 
 -- what is there, where it is of the form
 abbrev pub formed : {A : Type 0} → (A → Bool) → Option A → Option A
 formed form there = option_and_then (passing form) there
-
--- what each item says
-abbrev pub each_item : {A : Type 0} → (Data → Option A) → Items → Option (List A)
-each_item read no_items = Some []
-each_item read (item d ds) = option_and_then (λ x. option_map (λ xs. x ∷ xs) (each_item read ds)) (read d)
-
--- what each item of the array under a name says
-abbrev pub list_at : {A : Type 0} → (Data → Option A) → List ℕ → Data → Option (List A)
-list_at read name d = option_and_then (each_item read) (option_and_then as_array (get name d))
 
 -- names inside one another, at most so many
 abbrev pub names_in : List ℕ → ℕ → Option Data → Option (List (List ℕ))
@@ -110,29 +104,40 @@ who_by (Some account) d = option_map Account (passing is_account account)
 abbrev pub who_in : Data → Option Who
 who_in d = who_by (text_at (codes "account") d) d
 
+-- whom a token names: its subject, its actors and those who may act
+unfoldable pub parties_in : Data → Option Parties
+parties_in d = do
+  act ← act_in d
+  may_act ← may_act_in d
+  sub ← sub_in d
+  Some (record { sub = sub; act = act; may_act = may_act })
+
+-- the private claim `wif`: what a decision reads
+unfoldable pub wif_in : Data → Option Wif
+wif_in d = do
+  accounts ← list_at account_in (codes "accounts") d
+  pools ← list_at pool_in (codes "pools") d
+  scopes ← scopes_in d
+  who ← option_and_then who_in (get (codes "who") d)
+  Some (record { who = who; pools = pools; accounts = accounts; scopes = scopes })
+
 -- the facts of a tree
 unfoldable pub facts_in : Data → Option Facts
 facts_in d = do
-  act ← act_in d
   exp ← date_in (codes "exp") d
   iat ← date_in (codes "iat") d
   number ← number_in d
-  may_act ← may_act_in d
-  sub ← sub_in d
-  wif ← get (codes "wif") d
-  accounts ← list_at account_in (codes "accounts") wif
-  pools ← list_at pool_in (codes "pools") wif
-  scopes ← scopes_in wif
-  who ← option_and_then who_in (get (codes "who") wif)
+  parties ← parties_in d
+  wif ← option_and_then wif_in (get (codes "wif") d)
   Some (record {
     number = number;
-    sub = sub;
+    sub = parties.sub;
     iat = iat;
     exp = exp;
-    act = act;
-    may_act = may_act;
-    who = who;
-    pools = pools;
-    accounts = accounts;
-    scopes = scopes;
+    act = parties.act;
+    may_act = parties.may_act;
+    who = wif.who;
+    pools = wif.pools;
+    accounts = wif.accounts;
+    scopes = wif.scopes;
   })

@@ -1,7 +1,8 @@
 -- What a payload's text says. The text is written again and compared, so the tree's reader needs no more than to find
 -- the parts.
-use Rattle.std.specs.Prelude.{◌≡◌, ⊤, Result, Ok, Err, ℕ, List, Option, None, Some, option_and_then}
+use Rattle.std.specs.Prelude.{◌≡◌, ⊤, Result, ℕ, List, Option, None, option_and_then}
 use Rattle.std.specs.Str.{bytes_eq}
+use Rattle.base_types.specs.Reading.{ReadsOr}
 use Rattle.json_text.specs.Document.{document}
 use Rattle.access_token.specs.declared.facts.Facts.{Facts}
 use Rattle.access_token.specs.declared.reading.PayloadFault.{PayloadFault}
@@ -14,11 +15,10 @@ unfoldable pub payload_facts : List ℕ → List ℕ → Option Facts
 payload_facts issuer text = formed (λ facts. bytes_eq (payload_text issuer facts) text) (option_and_then facts_in (document text))
 
 -- Form says that the payload says no facts, and want of memory says nothing.
-abbrev pub RefusesPayload : Option Facts → PayloadFault → Type 0
-RefusesPayload there Form = there ≡ None
-RefusesPayload there Memory = ⊤
+abbrev pub RefusesPayload : PayloadFault → Option Facts → Type 0
+RefusesPayload Form there = there ≡ None
+RefusesPayload Memory there = ⊤
 
 -- the facts that the payload says, or Form where it says none
 abbrev pub ReadsPayload : Result Facts PayloadFault → Option Facts → Type 0
-ReadsPayload (Ok facts) there = there ≡ Some facts
-ReadsPayload (Err fault) there = RefusesPayload there fault
+ReadsPayload result there = ReadsOr RefusesPayload (λ facts. facts) result there

@@ -2,45 +2,45 @@ ghost use Rattle.std.specs.Prelude.{◌≡◌, IfOk, codes, option_map};
 ghost use Rattle.std.specs.List.{list_all};
 ghost use Rattle.serde_json.specs.View.{view};
 ghost use Rattle.base_types.specs.Forms.{has_size as size_is};
-ghost use Rattle.iam_names.specs.Reads.{ReadsName};
+ghost use Rattle.json_text.specs.Reads.{Reads};
 ghost use Rattle.access_token.specs.Forms as form;
 ghost use Rattle.access_token.specs.Parts.{names_in as names_under, act_in, may_act_in};
 
 use base_types::{Items, Text, has_size};
 use iam_names::{Member, NameError};
-use json_text::text_at;
+use json_text::{ReadFault, text_at};
 use serde_json::Value;
 use std::alloc::{AllocError, Global};
 
 const MAX_ACTORS: usize = 8;
 
 /// The actors' names, the newest first.
-pub(crate) fn act_at(alloc: Global, json: &Value) -> Result<Items<Text>, NameError>
-    ensures { ReadsName result (act_in (view json.now)) }
+pub(crate) fn act_at(alloc: Global, json: &Value) -> Result<Items<Text>, ReadFault>
+    ensures { Reads result (act_in (view json.now)) }
 {
     let names = names_in(alloc, "act", json.get("act"))?;
     if are_names(alloc, names.as_slice())? {
         Ok(names)
     } else {
-        Err(NameError::Form)
+        Err(ReadFault::Form)
     }
 }
 
 /// Those who may act, the next one first.
-pub(crate) fn may_act_at(alloc: Global, json: &Value) -> Result<Items<Text>, NameError>
-    ensures { ReadsName result (may_act_in (view json.now)) }
+pub(crate) fn may_act_at(alloc: Global, json: &Value) -> Result<Items<Text>, ReadFault>
+    ensures { Reads result (may_act_in (view json.now)) }
 {
     let names = names_in(alloc, "may_act", json.get("may_act"))?;
     if are_actors(names.as_slice()) {
         Ok(names)
     } else {
-        Err(NameError::Form)
+        Err(ReadFault::Form)
     }
 }
 
 /// At most 8 names inside one another, the outermost first.
-fn names_in(alloc: Global, name: &str, outermost: Option<&Value>) -> Result<Items<Text>, NameError>
-    ensures { ReadsName result (names_under name.now 8 (option_map (λ value. view value.now) outermost.entry)) }
+fn names_in(alloc: Global, name: &str, outermost: Option<&Value>) -> Result<Items<Text>, ReadFault>
+    ensures { Reads result (names_under name.now 8 (option_map (λ value. view value.now) outermost.entry)) }
 {
     let mut names = Items::new(alloc);
     let mut left = outermost;
@@ -49,14 +49,14 @@ fn names_in(alloc: Global, name: &str, outermost: Option<&Value>) -> Result<Item
             return Ok(names);
         };
         let Some(text) = text_at(object, "sub") else {
-            return Err(NameError::Form);
+            return Err(ReadFault::Form);
         };
         names.push(Text::copy_of(alloc, text)?)?;
         left = object.get(name);
     }
     match left {
         None => Ok(names),
-        Some(_) => Err(NameError::Form),
+        Some(_) => Err(ReadFault::Form),
     }
 }
 

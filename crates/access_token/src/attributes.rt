@@ -1,27 +1,28 @@
 ghost use Rattle.std.specs.Prelude.{◌≡◌};
 ghost use Rattle.serde_json.specs.Find.{as_str as text_of};
 ghost use Rattle.serde_json.specs.View.{view, members_view};
-ghost use Rattle.iam_names.specs.Reads.{ReadsName};
+ghost use Rattle.json_text.specs.Reads.{Reads};
 ghost use Rattle.access_token.specs.Forms.{is_attribute as attribute_form};
 ghost use Rattle.access_token.specs.Parts.{formed, attributes_in, attributes_at as attributes_under};
 
 use base_types::{Text, TextMap, has_size};
-use iam_names::{AttributeForm, Form, NameError};
+use iam_names::{AttributeForm, Form};
+use json_text::ReadFault;
 use serde_json::{Map, Value};
 use std::alloc::Global;
 
 /// The attributes of an outside identity.
-pub(crate) fn attributes_at(alloc: Global, json: &Value) -> Result<TextMap<Text>, NameError>
-    ensures { ReadsName result (attributes_under (view json.now)) }
+pub(crate) fn attributes_at(alloc: Global, json: &Value) -> Result<TextMap<Text>, ReadFault>
+    ensures { Reads result (attributes_under (view json.now)) }
 {
     match json.get("attributes").and_then(Value::as_object) {
         Some(members) => attributes_of(alloc, members),
-        None => Err(NameError::Form),
+        None => Err(ReadFault::Form),
     }
 }
 
-fn attributes_of(alloc: Global, members: &Map<String, Value>) -> Result<TextMap<Text>, NameError>
-    ensures { ReadsName result (attributes_in (members_view members.now.entries)) }
+fn attributes_of(alloc: Global, members: &Map<String, Value>) -> Result<TextMap<Text>, ReadFault>
+    ensures { Reads result (attributes_in (members_view members.now.entries)) }
 {
     let mut attributes = TextMap::new(alloc);
     for (name, json) in members.iter() {
@@ -32,12 +33,12 @@ fn attributes_of(alloc: Global, members: &Map<String, Value>) -> Result<TextMap<
 }
 
 /// The value of the attribute of that name.
-fn value_of(alloc: Global, name: &str, json: &Value) -> Result<Text, NameError>
-    ensures { ReadsName result (formed (λ value. attribute_form (name.now, value)) (text_of (view json.now))) }
+fn value_of(alloc: Global, name: &str, json: &Value) -> Result<Text, ReadFault>
+    ensures { Reads result (formed (λ value. attribute_form (name.now, value)) (text_of (view json.now))) }
 {
     match json.as_str() {
         Some(value) if is_attribute(name, value) => Ok(Text::copy_of(alloc, value)?),
-        _ => Err(NameError::Form),
+        _ => Err(ReadFault::Form),
     }
 }
 

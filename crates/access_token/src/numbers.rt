@@ -3,11 +3,10 @@ ghost use Rattle.std.specs.Char.{digit_value as digit};
 ghost use Rattle.std.specs.Str.Parse.{digits_value};
 ghost use Rattle.serde_json.specs.View.{view};
 ghost use Rattle.base_types.specs.Forms.{passing};
-ghost use Rattle.iam_names.specs.Reads.{ReadsName};
+ghost use Rattle.json_text.specs.Reads.{Reads};
 ghost use Rattle.access_token.specs.Parts.{date_in, number_in};
 
-use iam_names::NameError;
-use json_text::{text_at, whole_number_at};
+use json_text::{ReadFault, text_at, whole_number_at};
 use serde_json::Value;
 
 const DATE_LIMIT: u64 = 1 << 53;
@@ -15,22 +14,22 @@ const DATE_LIMIT: u64 = 1 << 53;
 const NUMBER_LIMIT: u64 = 1 << 32;
 
 /// The seconds under a name, below 2^53.
-pub(crate) fn date_at(json: &Value, name: &str) -> Result<u64, NameError>
-    ensures { ReadsName result (date_in name.now (view json.now)) }
+pub(crate) fn date_at(json: &Value, name: &str) -> Result<u64, ReadFault>
+    ensures { Reads result (date_in name.now (view json.now)) }
 {
     match whole_number_at(json, name) {
         Some(seconds) if seconds < DATE_LIMIT => Ok(seconds),
-        _ => Err(NameError::Form),
+        _ => Err(ReadFault::Form),
     }
 }
 
 /// The number that `jti` writes, below 2^32.
-pub(crate) fn number_at(json: &Value) -> Result<u32, NameError>
-    ensures { ReadsName result (number_in (view json.now)) }
+pub(crate) fn number_at(json: &Value) -> Result<u32, ReadFault>
+    ensures { Reads result (number_in (view json.now)) }
 {
     match text_at(json, "jti") {
         Some(text) => number_of(text.as_bytes()),
-        None => Err(NameError::Form),
+        None => Err(ReadFault::Form),
     }
 }
 
@@ -46,14 +45,14 @@ fn digit_value(byte: u8) -> u64
 
 // A text that isn't a number's decimal text gets a number whose text is another, so the comparison of
 // the whole payload refuses it.
-fn number_of(text: &[u8]) -> Result<u32, NameError>
-    ensures { ReadsName result (passing (λ number. nat_lt number (2 ^ 32)) (digits_value 10 text.now)) }
+fn number_of(text: &[u8]) -> Result<u32, ReadFault>
+    ensures { Reads result (passing (λ number. nat_lt number (2 ^ 32)) (digits_value 10 text.now)) }
 {
     let mut number: u64 = 0;
     for &byte in text {
         number = number * 10 + digit_value(byte);
         if number >= NUMBER_LIMIT {
-            return Err(NameError::Form);
+            return Err(ReadFault::Form);
         }
     }
     Ok(number as u32)

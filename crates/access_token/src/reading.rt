@@ -2,21 +2,18 @@ ghost use Rattle.std.specs.Prelude.{◌≡◌, IfOk, option_and_then};
 ghost use Rattle.std.specs.Str.{bytes_eq};
 ghost use Rattle.serde_json.specs.View.{view};
 ghost use Rattle.json_text.specs.Document.{document};
-ghost use Rattle.iam_names.specs.Reads.{ReadsName};
-ghost use Rattle.access_token.specs.Parts.{facts_in as facts_under, sub_in};
+ghost use Rattle.json_text.specs.Reads.{Reads};
+ghost use Rattle.access_token.specs.Parts.{facts_in as facts_under};
 ghost use Rattle.access_token.specs.Payload.{payload_text};
 ghost use Rattle.access_token.specs.Reading.{payload_facts, ReadsPayload};
 
 use crate::Facts;
-use crate::actors::{act_at, is_name, may_act_at};
 use crate::numbers::{date_at, number_at};
+use crate::parties::parties_at;
 use crate::payload::write_payload;
-use crate::scopes::scopes_at;
-use crate::who::who_at;
-use crate::wif::{accounts_at, pools_at};
-use base_types::Text;
-use iam_names::NameError;
-use json_text::{DocumentFault, read_document, text_at};
+use crate::wif::wif_at;
+use base_types::both;
+use json_text::{DocumentFault, ReadFault, read_document};
 use serde_json::Value;
 use std::alloc::{AllocError, Global};
 
@@ -71,58 +68,35 @@ fn facts_in(alloc: Global, payload: &[u8]) -> Result<Facts, PayloadFault>
     }
 }
 
-fn facts_or(read: Result<Facts, NameError>) -> Result<Facts, PayloadFault>
-    ensures { (there : _) → ReadsName read there → ReadsPayload result there }
+fn facts_or(read: Result<Facts, ReadFault>) -> Result<Facts, PayloadFault>
+    ensures { (there : _) → Reads read there → ReadsPayload result there }
 {
     match read {
         Ok(facts) => Ok(facts),
-        Err(NameError::Form) => Err(PayloadFault::Form),
-        Err(NameError::Memory) => Err(PayloadFault::Memory),
+        Err(ReadFault::Form) => Err(PayloadFault::Form),
+        Err(ReadFault::Memory) => Err(PayloadFault::Memory),
     }
 }
 
 // The facts whose parts stand in a tree, each of its form.
 #[tactic(auto, unfolding(crate::specs::Parts::facts_in))]
-fn facts_of(alloc: Global, json: &Value) -> Result<Facts, NameError>
-    ensures { ReadsName result (facts_under (view json.now)) }
+fn facts_of(alloc: Global, json: &Value) -> Result<Facts, ReadFault>
+    ensures { Reads result (facts_under (view json.now)) }
 {
-    let act = act_at(alloc, json)?;
     let exp = date_at(json, "exp")?;
     let iat = date_at(json, "iat")?;
     let number = number_at(json)?;
-    let may_act = may_act_at(alloc, json)?;
-    let sub = sub_at(alloc, json)?;
-    let Some(wif) = json.get("wif") else {
-        return Err(NameError::Form);
-    };
-    let accounts = accounts_at(alloc, wif)?;
-    let pools = pools_at(alloc, wif)?;
-    let scopes = scopes_at(alloc, wif)?;
-    let who = who_at(alloc, wif)?;
+    let (parties, wif) = both(parties_at(alloc, json), wif_at(alloc, json))?;
     Ok(Facts {
         number,
-        sub,
+        sub: parties.sub,
         iat,
         exp,
-        act,
-        may_act,
-        who,
-        pools,
-        accounts,
-        scopes,
+        act: parties.act,
+        may_act: parties.may_act,
+        who: wif.who,
+        pools: wif.pools,
+        accounts: wif.accounts,
+        scopes: wif.scopes,
     })
-}
-
-// The name of the subject.
-fn sub_at(alloc: Global, json: &Value) -> Result<Text, NameError>
-    ensures { ReadsName result (sub_in (view json.now)) }
-{
-    let Some(name) = text_at(json, "sub") else {
-        return Err(NameError::Form);
-    };
-    if is_name(alloc, name)? {
-        Ok(Text::copy_of(alloc, name)?)
-    } else {
-        Err(NameError::Form)
-    }
 }

@@ -1,68 +1,92 @@
-ghost use Rattle.std.specs.Prelude.{◌≡◌, codes};
-ghost use Rattle.serde_json.specs.View.{view, items_view};
-ghost use Rattle.iam_names.specs.Reads.{ReadsName};
-ghost use Rattle.access_token.specs.Parts.{each_item, list_at, account_in, pool_in};
+ghost use Rattle.std.specs.Prelude.{codes, option_and_then};
+ghost use Rattle.serde_json.specs.Find.{get as member};
+ghost use Rattle.serde_json.specs.View.{view};
+ghost use Rattle.json_text.specs.Reads.{Reads};
+ghost use Rattle.access_token.specs.Parts.{pool_in, wif_in};
 
-use base_types::Items;
-use iam_names::{Account, NameError, PoolName};
+use crate::names::named;
+use crate::scopes::scopes_at;
+use crate::who::who_at;
+use base_types::{Items, both};
+use iam_names::{Account, PoolName, ScopeWord, Who};
+use json_text::{ReadFault, ReadsJson, list_at};
 use serde_json::Value;
 use std::alloc::Global;
 
-/// The service accounts on the way to the token.
-pub(crate) fn accounts_at(alloc: Global, wif: &Value) -> Result<Items<Account>, NameError>
-    ensures { ReadsName result (list_at account_in (codes "accounts") (view wif.now)) }
+/// What the private claim `wif` says.
+#[derive(Drop)]
+pub(crate) struct Wif {
+    pub(crate) who: Who,
+    pub(crate) pools: Items<PoolName>,
+    pub(crate) accounts: Items<Account>,
+    pub(crate) scopes: Items<Items<ScopeWord>>,
+}
+
+/// What the private claim `wif` of a payload says.
+pub(crate) fn wif_at(alloc: Global, json: &Value) -> Result<Wif, ReadFault>
+    ensures { Reads result (option_and_then wif_in (member (codes "wif") (view json.now))) }
 {
-    match wif.get("accounts").and_then(Value::as_array) {
-        Some(items) => accounts_of_items(alloc, items.as_slice()),
-        None => Err(NameError::Form),
+    match json.get("wif") {
+        Some(wif) => wif_of(alloc, wif),
+        None => Err(ReadFault::Form),
     }
 }
 
-fn accounts_of_items(alloc: Global, items: &[Value]) -> Result<Items<Account>, NameError>
-    ensures { ReadsName result (each_item account_in (items_view items.now)) }
+#[tactic(auto, unfolding(crate::specs::Parts::wif_in))]
+fn wif_of(alloc: Global, json: &Value) -> Result<Wif, ReadFault>
+    ensures { Reads result (wif_in (view json.now)) }
 {
-    let mut accounts = Items::new(alloc);
-    for item in items {
-        accounts.push(account_of(alloc, item)?)?;
-    }
-    Ok(accounts)
+    let accounts = list_at::<AccountItem>(alloc, json, "accounts");
+    let pools = list_at::<PoolItem>(alloc, json, "pools");
+    let used = both(scopes_at(alloc, json), who_at(alloc, json));
+    let ((accounts, pools), (scopes, who)) = both(both(accounts, pools), used)?;
+    Ok(Wif {
+        who,
+        pools,
+        accounts,
+        scopes,
+    })
 }
 
-fn account_of(alloc: Global, json: &Value) -> Result<Account, NameError>
-    ensures { ReadsName result (account_in (view json.now)) }
-{
-    match json.as_str() {
-        Some(text) => Account::read(alloc, text),
-        None => Err(NameError::Form),
+/// The form of an account.
+struct AccountItem;
+
+impl ReadsJson for AccountItem {
+    ghost use Rattle.access_token.specs.Parts.{account_in};
+
+    type Item = Account;
+
+    ghost meaning = { account_in };
+
+    fn read_json(alloc: Global, json: &Value) -> Result<Account, ReadFault> {
+        match json.as_str() {
+            Some(text) => named(Account::read(alloc, text)),
+            None => Err(ReadFault::Form),
+        }
     }
 }
 
-/// The pools on the way to the token.
-pub(crate) fn pools_at(alloc: Global, wif: &Value) -> Result<Items<PoolName>, NameError>
-    ensures { ReadsName result (list_at pool_in (codes "pools") (view wif.now)) }
-{
-    match wif.get("pools").and_then(Value::as_array) {
-        Some(items) => pools_of_items(alloc, items.as_slice()),
-        None => Err(NameError::Form),
-    }
-}
+/// The form of a pool.
+struct PoolItem;
 
-fn pools_of_items(alloc: Global, items: &[Value]) -> Result<Items<PoolName>, NameError>
-    ensures { ReadsName result (each_item pool_in (items_view items.now)) }
-{
-    let mut pools = Items::new(alloc);
-    for item in items {
-        pools.push(pool_of(alloc, item)?)?;
+impl ReadsJson for PoolItem {
+    ghost use Rattle.access_token.specs.Parts.{pool_in};
+
+    type Item = PoolName;
+
+    ghost meaning = { pool_in };
+
+    fn read_json(alloc: Global, json: &Value) -> Result<PoolName, ReadFault> {
+        pool_of(alloc, json)
     }
-    Ok(pools)
 }
 
 /// The pool of a text.
-pub(crate) fn pool_of(alloc: Global, json: &Value) -> Result<PoolName, NameError>
-    ensures { ReadsName result (pool_in (view json.now)) }
+pub(crate) fn pool_of(alloc: Global, json: &Value) -> Result<PoolName, ReadFault>
+    ensures { Reads result (pool_in (view json.now)) }
 {
     match json.as_str() {
-        Some(text) => PoolName::read(alloc, text),
-        None => Err(NameError::Form),
+        Some(text) => named(PoolName::read(alloc, text)),
+        None => Err(ReadFault::Form),
     }
 }

@@ -21,15 +21,16 @@ binding_grants lists who permission binding = holds lists.roles binding.role per
 abbrev pub policy_grants : Lists → Who → List ℕ → List ℕ → List ℕ × List Binding → Bool
 policy_grants lists who permission resource policy = covers policy.0 resource && list_any (binding_grants lists who permission) policy.1
 
--- some policy grants the permission on the resource to who asks, at the moment
+-- some policy grants the permission on the resource to who asks, whatever the moment
 unfoldable pub granted : Lists → Who → List ℕ → List ℕ → ℕ → Bool
-granted lists who permission resource moment = list_any (policy_grants lists who permission resource) lists.policies
+granted lists who permission resource now = list_any (policy_grants lists who permission resource) lists.policies
 
 -- what a scope word stands for has the permission
 abbrev pub set_allows : List ℕ → ScopeSet → Bool
 set_allows permission All = true
 set_allows permission (Only permissions) = list_any (bytes_eq permission) permissions
 
+-- the scope word is there, and what it stands for has the permission
 abbrev pub word_allows : Lists → List ℕ → List ℕ → Bool
 word_allows lists permission word = passes (set_allows permission) (value_at word lists.scopes)
 
@@ -37,5 +38,6 @@ word_allows lists permission word = passes (set_allows permission) (value_at wor
 unfoldable pub scope_allows : Lists → List (List ℕ) → List ℕ → Bool
 scope_allows lists words permission = list_any (word_allows lists permission) words
 
+-- the scope word is there
 abbrev pub knows_scope : Lists → List ℕ → Bool
 knows_scope lists word = is_some (value_at word lists.scopes)

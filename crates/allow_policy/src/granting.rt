@@ -13,7 +13,7 @@ use iam_names::{
 use std::alloc::{AllocError, Global};
 
 /// Whether some binding of a policy at a resource that covers this one grants the permission to who
-/// asks, at the moment `at` in seconds.
+/// asks, at the moment `now` in seconds.
 #[tactic(auto, unfolding(crate::specs::Granting::granted))]
 pub fn granted(
     _alloc: Global,
@@ -21,11 +21,11 @@ pub fn granted(
     who: &Who,
     permission: &Permission,
     resource: &Resource,
-    at: u64,
+    now: u64,
 ) -> Result<bool, AllocError>
-    ensures { IfOk result (λ yes. yes ≡ granting.granted p.now.lists who.now permission.now resource.now at) }
+    ensures { IfOk result (λ yes. yes ≡ granting.granted p.now.lists who.now permission.now resource.now now) }
 {
-    let _ = at;
+    let _ = now;
     Ok(
         p.policies.rows().iter().any(|policy| {
             policy_grants(p, who, permission, resource, policy)

@@ -81,22 +81,26 @@ fn is_any_long(bindings: &[Binding]) -> bool
     bindings.iter().any(|binding| has_many_members(binding))
 }
 
-fn is_over_limit(p: &Policies, at: &Resource, bindings: &[Binding]) -> bool
-    ensures { result ≡ puts.is_over_limit p.now.lists at.now bindings.now }
+fn is_over_limit(p: &Policies, resource: &Resource, bindings: &[Binding]) -> bool
+    ensures { result ≡ puts.is_over_limit p.now.lists resource.now bindings.now }
 {
     BINDINGS < bindings.len()
         || is_any_long(bindings)
-        || is_full(&p.policies, at.as_str(), POLICIES)
+        || is_full(&p.policies, resource.as_str(), POLICIES)
 }
 
 /// Why a policy can't be put.
-pub(crate) fn policy_fault(p: &Policies, at: &Resource, bindings: &[Binding]) -> Option<PutFault>
-    ensures { result ≡ puts.policy_fault p.now.lists at.now bindings.now }
+pub(crate) fn policy_fault(
+    p: &Policies,
+    resource: &Resource,
+    bindings: &[Binding],
+) -> Option<PutFault>
+    ensures { result ≡ puts.policy_fault p.now.lists resource.now bindings.now }
 {
     if !knows_roles(p, bindings) {
         return Some(PutFault::UnknownRole);
     }
-    if is_over_limit(p, at, bindings) {
+    if is_over_limit(p, resource, bindings) {
         return Some(PutFault::Limit);
     }
     None

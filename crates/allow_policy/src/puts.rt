@@ -4,9 +4,9 @@ ghost use Rattle.allow_policy.specs.Puts.{RefusesBy, role_fault, scope_fault, po
 
 use crate::binding::Binding;
 use crate::policies::Policies;
+use crate::policy_row::PolicyRow;
 use crate::put_fault::PutFault;
 use crate::room::{ready, ready_role, ready_scope};
-use crate::row::Row;
 use crate::scope_set::ScopeSet;
 use base_types::Items;
 use iam_names::{Permission, Resource, Role, ScopeWord};
@@ -41,13 +41,17 @@ pub fn put_scope(p: &mut Policies, word: ScopeWord, what: ScopeSet) -> Result<()
 
 /// Puts the policy of a resource, in place of what stands there: at most 10,000 policies, 64 bindings in
 /// each, and 64 members in each binding.
-pub fn set(p: &mut Policies, at: Resource, bindings: Items<Binding>) -> Result<(), PutFault>
-    ensures refused { RefusesBy (policy_fault p.old.lists at bindings) result }
-    ensures done { OnOk result (p.new.lists ≡ with_policy at bindings p.old.lists) }
+pub fn put_policy(
+    p: &mut Policies,
+    resource: Resource,
+    bindings: Items<Binding>,
+) -> Result<(), PutFault>
+    ensures refused { RefusesBy (policy_fault p.old.lists resource bindings) result }
+    ensures done { OnOk result (p.new.lists ≡ with_policy resource bindings p.old.lists) }
     ensures kept { OnErr result (p.new.lists ≡ p.old.lists) }
 {
-    let row = ready(p, &at, bindings)?;
-    place(p, at, row);
+    let row = ready(p, &resource, bindings)?;
+    place(p, resource, row);
     Ok(())
 }
 
@@ -67,10 +71,10 @@ pub fn place_scope(p: &mut Policies, word: ScopeWord, what: ScopeSet)
     p.scopes.place(word.into_text(), what);
 }
 
-/// What `set` does, after `ready`. It takes no memory.
-pub fn place(p: &mut Policies, at: Resource, row: Row)
+/// What `put_policy` does, after `ready`. It takes no memory.
+pub fn place(p: &mut Policies, resource: Resource, row: PolicyRow)
     requires { 1 ≤ p.old.spare }
-    ensures { p.new.lists ≡ with_policy at row p.old.lists }
+    ensures { p.new.lists ≡ with_policy resource row p.old.lists }
 {
-    p.policies.place(at.into_text(), row.into_bindings());
+    p.policies.place(resource.into_text(), row.into_bindings());
 }

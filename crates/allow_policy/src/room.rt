@@ -4,8 +4,8 @@ ghost use Rattle.allow_policy.specs.Puts.{RefusesBy, role_fault as fault_of_role
 use crate::binding::Binding;
 use crate::limits::{policy_fault, role_fault, scope_fault};
 use crate::policies::Policies;
+use crate::policy_row::PolicyRow;
 use crate::put_fault::PutFault;
-use crate::row::Row;
 use crate::scope_set::ScopeSet;
 use base_types::Items;
 use iam_names::{Permission, Resource, Role, ScopeWord};
@@ -36,16 +36,20 @@ pub fn ready_scope(p: &mut Policies, word: &ScopeWord, what: &ScopeSet) -> Resul
     Ok(())
 }
 
-/// Makes room for the policy, and refuses as `set` does. The row holds its bindings.
-pub fn ready(p: &mut Policies, at: &Resource, bindings: Items<Binding>) -> Result<Row, PutFault>
+/// Makes room for the policy, and refuses as `put_policy` does. The row holds its bindings.
+pub fn ready(
+    p: &mut Policies,
+    resource: &Resource,
+    bindings: Items<Binding>,
+) -> Result<PolicyRow, PutFault>
     ensures row { IfOk result (λ row. row ≡ bindings) }
-    ensures refused { RefusesBy (fault_of_policy p.old.lists at.now bindings) result }
+    ensures refused { RefusesBy (fault_of_policy p.old.lists resource.now bindings) result }
     ensures lists { p.new.lists ≡ p.old.lists }
     ensures room { OnOk result (1 ≤ p.new.spare) }
 {
-    if let Some(fault) = policy_fault(p, at, bindings.as_slice()) {
+    if let Some(fault) = policy_fault(p, resource, bindings.as_slice()) {
         return Err(fault);
     }
     p.make_room()?;
-    Ok(Row::new(bindings))
+    Ok(PolicyRow::new(bindings))
 }

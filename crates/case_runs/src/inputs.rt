@@ -18,20 +18,20 @@ impl Inputs {
     }
 
     /// The bytes of an input, and none where it isn't there.
-    pub(crate) fn bytes(&self, at: usize) -> &[u8] {
-        match self.parts.get(at) {
+    pub(crate) fn bytes(&self, index: usize) -> &[u8] {
+        match self.parts.get(index) {
             Some(part) => part.as_slice(),
             None => &[],
         }
     }
 
     /// An input that is a text, and else the empty text.
-    pub(crate) fn text(&self, at: usize) -> &str {
-        std::str::from_utf8(self.bytes(at)).unwrap_or("")
+    pub(crate) fn text(&self, index: usize) -> &str {
+        std::str::from_utf8(self.bytes(index)).unwrap_or("")
     }
 
     /// An input that is a number, and else 0.
-    pub(crate) fn number(&self, at: usize) -> u64 {
-        self.text(at).parse::<u64>().unwrap_or(0)
+    pub(crate) fn number(&self, index: usize) -> u64 {
+        self.text(index).parse::<u64>().unwrap_or(0)
     }
 }

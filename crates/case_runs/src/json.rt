@@ -7,8 +7,8 @@ use serde_json::Value;
 use std::alloc::{AllocError, Global};
 
 // The JSON value of an input, or none.
-fn document(alloc: Global, inputs: &Inputs, at: usize) -> Result<Option<Value>, AllocError> {
-    match read_document(alloc, inputs.bytes(at)) {
+fn document(alloc: Global, inputs: &Inputs, index: usize) -> Result<Option<Value>, AllocError> {
+    match read_document(alloc, inputs.bytes(index)) {
         Ok(value) => Ok(Some(value)),
         Err(DocumentFault::NoJson) => Ok(None),
         Err(DocumentFault::Memory) => Err(AllocError),

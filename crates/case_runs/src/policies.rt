@@ -1,8 +1,8 @@
 use crate::escapes::yes_or_no;
 use crate::inputs::Inputs;
 use allow_policy::{
-    Binding, Policies, PutFault, ScopeSet, granted, knows_scope, put_role, put_scope, scope_allows,
-    set,
+    Binding, Policies, PutFault, ScopeSet, granted, knows_scope, put_policy, put_role, put_scope,
+    scope_allows,
 };
 use base_types::{Items, both, kept};
 use iam_names::{Account, Member, NameError, Permission, Resource, Role, ScopeWord, Who};
@@ -96,7 +96,7 @@ fn put_one_role(
 fn put_one_policy(alloc: Global, policies: &mut Policies, inputs: &Inputs) -> Result<(), Stopped> {
     let binding = one_binding(alloc, inputs.text(2), inputs.text(3));
     let (resource, bindings) = both(resource_of(alloc, inputs.text(4)), binding)?;
-    Ok(set(policies, resource, bindings)?)
+    Ok(put_policy(policies, resource, bindings)?)
 }
 
 fn put_both(alloc: Global, policies: &mut Policies, inputs: &Inputs) -> Result<(), Stopped> {

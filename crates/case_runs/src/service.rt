@@ -13,7 +13,7 @@ use sts_serve::{Found, Served, read_frame, run_script};
 use wif_base::{MemDisk, MemSink, MemSource, Route, route_of};
 
 const CONFIG: &[u8] =
-    b"{\"issuer\":\"https://sts.example\",\"key\":\"U1NTU1NTU1NTU1NTU1NTU1NTU1NTU1NTU1NTU1NTU1M\",\"admin\":\"admin-secret-000001\",\"gate\":\"gate-secret-0000001\"}";
+    br#"{"issuer":"https://sts.example","key":"U1NTU1NTU1NTU1NTU1NTU1NTU1NTU1NTU1NTU1NTU1M","admin":"admin-secret-000001","gate":"gate-secret-0000001"}"#;
 
 fn shown(command: &Command) -> &'static str {
     match command {

@@ -1,5 +1,5 @@
 -- What a token's text carries under a key.
-use Rattle.std.specs.Prelude.{◌≡◌, ℕ, List, Option, None, Some, Result, Ok, Err, ⊤}
+use Rattle.std.specs.Prelude.{ℕ, List, Option, None, Some, Result, Ok, Err}
 use Rattle.hmac_jws.specs.Verified.{first_jws_fault, payload_of}
 use Rattle.hmac_jws.specs.declared.fault.JwsFault.{JwsFault}
 use Rattle.hmac_jws.specs.declared.fault.JwsFault.TheVariants as jws
@@ -32,15 +32,3 @@ carried_after issuer text None = claimed (payload_facts issuer (payload_of text)
 -- them and the issuer.
 unfoldable pub carried_of : List ℕ → List ℕ → List ℕ → Result Facts GateFault
 carried_of key issuer text = carried_after issuer text (first_jws_fault key text)
-
--- A fault says that it is the one for which the text carries no facts, and want of memory says nothing.
-abbrev pub RefusesText : Result Facts GateFault → GateFault → Type 0
-RefusesText there Shape = there ≡ Err Shape
-RefusesText there Mac = there ≡ Err Mac
-RefusesText there Claims = there ≡ Err Claims
-RefusesText there Memory = ⊤
-
--- the facts that the text carries, or the fault for which it carries none
-abbrev pub ReadsText : Result Facts GateFault → Result Facts GateFault → Type 0
-ReadsText (Ok facts) there = there ≡ Ok facts
-ReadsText (Err fault) there = RefusesText there fault

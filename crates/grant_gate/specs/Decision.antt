@@ -32,8 +32,8 @@ words_allow view permission words = scope_allows view.lists words permission
 
 -- the rules that facts can fail, but for the grant
 abbrev pub denials : View → Facts → List ℕ → ℕ → List (Option Decision)
-denials view facts permission at =
-    denied_unless (nat_lt at facts.exp) G4 ∷
+denials view facts permission now =
+    denied_unless (nat_lt now facts.exp) G4 ∷
     denied_at G5 (place_failing (pool_enabled view) facts.pools) ∷
     denied_at G6 (place_failing (account_enabled view) facts.accounts) ∷
     denied_at G7 (place_failing (words_allow view permission) facts.scopes) ∷ []
@@ -45,8 +45,8 @@ granted_or false = Deny G9 0
 
 -- the first rule that the facts fail, or they are admitted
 unfoldable pub facts_decision : View → Facts → List ℕ → List ℕ → ℕ → Decision
-facts_decision view facts permission resource at =
-    first_failing (denials view facts permission at) (granted_or (granted view.lists facts.who permission resource at))
+facts_decision view facts permission resource now =
+    first_failing (denials view facts permission now) (granted_or (granted view.lists facts.who permission resource now))
 
 -- The rule that stands for a fault. Want of memory is no fault of a text.
 abbrev pub fault_decision : GateFault → Decision
@@ -57,9 +57,9 @@ fault_decision fault.Memory = Deny G1 0
 
 -- by the facts, or by the fault for which there are none
 abbrev pub decided : View → Result Facts GateFault → List ℕ → List ℕ → ℕ → Decision
-decided view (Err f) permission resource at = fault_decision f
-decided view (Ok facts) permission resource at = facts_decision view facts permission resource at
+decided view (Err f) permission resource now = fault_decision f
+decided view (Ok facts) permission resource now = facts_decision view facts permission resource now
 
 -- what the text carries decides, with what stands now under the names; no link is looked at
 unfoldable pub carried_decision : View → List ℕ → List ℕ → List ℕ → List ℕ → List ℕ → ℕ → Decision
-carried_decision view key issuer text permission resource at = decided view (carried_of key issuer text) permission resource at
+carried_decision view key issuer text permission resource now = decided view (carried_of key issuer text) permission resource now

@@ -14,7 +14,7 @@ use iam_names::{Account, Permission, PoolName, Resource, ScopeWord, Who};
 use service_view::View;
 use std::alloc::{AllocError, Global};
 
-/// Decides by what a token's text carries whether a permission on a resource is admitted at the moment `at`, in seconds
+/// Decides by what a token's text carries whether a permission on a resource is admitted at the moment `now`, in seconds
 /// since 1970-01-01T00:00:00Z. Pools, accounts, scope words and policies are those of the view; no link is looked at.
 #[tactic(auto, unfolding(crate::specs::Decision::carried_decision))]
 pub fn decide(
@@ -25,14 +25,14 @@ pub fn decide(
     text: &str,
     permission: &Permission,
     resource: &Resource,
-    at: u64,
+    now: u64,
 ) -> Result<Decision, AllocError>
     requires { 32 ≤ length key.now }
-    ensures { IfOk result (λ decision. decision ≡ decisions.carried_decision view.now.content key.now issuer.now text.now permission.now resource.now at) }
+    ensures { IfOk result (λ decision. decision ≡ decisions.carried_decision view.now.content key.now issuer.now text.now permission.now resource.now now) }
 {
     match carried(alloc, key, issuer, text) {
         Ok(facts) => {
-            let decision = decide_facts(alloc, view, &facts, permission, resource, at);
+            let decision = decide_facts(alloc, view, &facts, permission, resource, now);
             drop(facts);
             decision
         }
@@ -56,21 +56,21 @@ fn decide_facts(
     facts: &Facts,
     permission: &Permission,
     resource: &Resource,
-    at: u64,
+    now: u64,
 ) -> Result<Decision, AllocError>
-    ensures { IfOk result (λ decision. decision ≡ decisions.facts_decision view.now.content facts.now permission.now resource.now at) }
+    ensures { IfOk result (λ decision. decision ≡ decisions.facts_decision view.now.content facts.now permission.now resource.now now) }
 {
-    if let Some(denial) = denial_of(view, facts, permission, at) {
+    if let Some(denial) = denial_of(view, facts, permission, now) {
         return Ok(denial);
     }
-    grant(alloc, view, &facts.who, permission, resource, at)
+    grant(alloc, view, &facts.who, permission, resource, now)
 }
 
 // The first rule that fails, but for the grant.
-fn denial_of(view: &View, facts: &Facts, permission: &Permission, at: u64) -> Option<Decision>
-    ensures { result ≡ first_of (decisions.denials view.now.content facts.now permission.now at) }
+fn denial_of(view: &View, facts: &Facts, permission: &Permission, now: u64) -> Option<Decision>
+    ensures { result ≡ first_of (decisions.denials view.now.content facts.now permission.now now) }
 {
-    if at >= facts.exp {
+    if now >= facts.exp {
         return Some(denied(GateRule::G4));
     }
     if let Some(place) = disabled_pool(view, facts.pools.as_slice()) {
@@ -100,11 +100,11 @@ fn grant(
     who: &Who,
     permission: &Permission,
     resource: &Resource,
-    at: u64,
+    now: u64,
 ) -> Result<Decision, AllocError>
-    ensures { IfOk result (λ decision. decision ≡ decisions.granted_or (is_granted view.now.content.lists who.now permission.now resource.now at)) }
+    ensures { IfOk result (λ decision. decision ≡ decisions.granted_or (is_granted view.now.content.lists who.now permission.now resource.now now)) }
 {
-    if granted(alloc, &view.policies, who, permission, resource, at)? {
+    if granted(alloc, &view.policies, who, permission, resource, now)? {
         return Ok(Decision::Admit);
     }
     Ok(denied(GateRule::G9))

@@ -10,9 +10,9 @@ pub enum GateRule {
     G3,
     /// The token is expired.
     G4,
-    /// A pool is switched off or unknown.
+    /// A pool is disabled or unknown.
     G5,
-    /// A service account is switched off or unknown.
+    /// A service account is disabled or unknown.
     G6,
     /// A list of scope words doesn't allow the permission.
     G7,

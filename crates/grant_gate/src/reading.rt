@@ -1,6 +1,6 @@
-ghost use Rattle.std.specs.Prelude.{◌≡◌, ◌≤◌, length};
+ghost use Rattle.std.specs.Prelude.{◌≡◌, ◌≤◌, ◌⊎◌, Ok, Err, IfOk, IfErr, length};
 ghost use Rattle.access_token.specs.Reading.{ReadsPayload};
-ghost use Rattle.grant_gate.specs.Carried.{carried_of, claimed as claimed_of, gate_fault as fault_of, ReadsText};
+ghost use Rattle.grant_gate.specs.Carried.{carried_of, claimed as claimed_of, gate_fault as fault_of};
 
 use crate::GateFault;
 use access_token::{Facts, PayloadFault, read_payload};
@@ -13,7 +13,8 @@ use std::alloc::Global;
 #[tactic(auto, unfolding(crate::specs::Carried::carried_of))]
 pub fn carried(alloc: Global, key: &[u8], issuer: &str, text: &str) -> Result<Facts, GateFault>
     requires { 32 ≤ length key.now }
-    ensures { ReadsText result (carried_of key.now issuer.now text.now) }
+    ensures facts { IfOk result (λ facts. carried_of key.now issuer.now text.now ≡ Ok facts) }
+    ensures fault { IfErr result (λ fault. (fault ≡ GateFault.Memory) ⊎ (carried_of key.now issuer.now text.now ≡ Err fault)) }
 {
     match verify(alloc, key, text) {
         Ok(verified) => claimed(read_payload(alloc, issuer, verified.payload.as_slice())),
@@ -33,7 +34,8 @@ fn gate_fault(fault: JwsFault) -> GateFault
 }
 
 fn claimed(read: Result<Facts, PayloadFault>) -> Result<Facts, GateFault>
-    ensures { (there : _) → ReadsPayload read there → ReadsText result (claimed_of there) }
+    ensures facts { (there : _) → ReadsPayload read there → IfOk result (λ facts. claimed_of there ≡ Ok facts) }
+    ensures fault { (there : _) → ReadsPayload read there → IfErr result (λ fault. (fault ≡ GateFault.Memory) ⊎ (claimed_of there ≡ Err fault)) }
 {
     match read {
         Ok(facts) => Ok(facts),

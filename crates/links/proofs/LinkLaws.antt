@@ -21,7 +21,7 @@ use Rattle.access_token.specs.Payload.{payload_text}
 use Rattle.wif_claims.specs.declared.claims.Claims.{Claims}
 use Rattle.wif_claims.specs.declared.claims.ClaimFault.{ClaimFault}
 use Rattle.wif_claims.specs.declared.claims.When.{When}
-use Rattle.wif_claims.specs.declared.claims.When.TheVariants.{Live, Expired as IsExpired, NotYet as IsNotYet}
+use Rattle.wif_claims.specs.declared.claims.When.TheVariants.{Live, Expired, NotYet}
 use Rattle.wif_claims.specs.Payload.{claims_of}
 use Rattle.wif_claims.specs.Timing.{timing_of}
 use Rattle.service_config.specs.declared.config.Config.{Config}
@@ -34,7 +34,7 @@ use Rattle.links.specs.declared.entry.Entry.TheVariants as entry
 use Rattle.links.specs.declared.entry.Exchange.{Exchange}
 use Rattle.links.specs.declared.fault.RuleCode.{RuleCode}
 use Rattle.links.specs.declared.fault.RuleCode.TheVariants.{E14, E15, E18}
-use Rattle.links.specs.declared.fault.MapFault.TheVariants.{Issuer, Audience as NoAudience}
+use Rattle.links.specs.declared.fault.MapFault.TheVariants.{Issuer, Audience}
 use Rattle.links.specs.declared.source.Source.{Source}
 use Rattle.links.specs.Chain.{Link, Chain, chains_of, chain_at}
 use Rattle.links.specs.Facts.{facts_of}
@@ -148,8 +148,8 @@ first_none None None (Some r) is = absurd (cc is)
 
 timed : (w : When) → timing_fault w ≡ None → w ≡ Live
 timed Live is = refl
-timed IsExpired is = absurd (cc is)
-timed IsNotYet is = absurd (cc is)
+timed Expired is = absurd (cc is)
+timed NotYet is = absurd (cc is)
 
 opened_well : (fault : Option JwsFault) (payload found : List ℕ) → opened_by fault payload ≡ Ok found → (fault ≡ None) × (payload ≡ found)
 opened_well None payload found is = (refl, cc is)
@@ -177,13 +177,13 @@ shown_by provider token now s is =
     let claims = claimed.0 in
     let who = gave (who_of_claims provider claims now) _ s claimed.2 in
     let rules = passed_rules (first_admission_fault provider claims now) _ who.0 who.1 in
-    let each = first_none (fails_if (not (bytes_eq claims.iss provider.issuer)) (E18 Issuer)) (fails_if (not (accepts provider claims.aud)) (E18 NoAudience)) (timing_fault (timing_of claims now)) rules.0 in
+    let each = first_none (fails_if (not (bytes_eq claims.iss provider.issuer)) (E18 Issuer)) (fails_if (not (accepts provider claims.aud)) (E18 Audience)) (timing_fault (timing_of claims now)) rules.0 in
     record {
       verified = good.0;
       claims = claims;
       claimed = ap claims_of good.1 ∙ claimed_well (claims_of verified.0) claims claimed.1;
       issuer = not_failing (bytes_eq claims.iss provider.issuer) (E18 Issuer) each.0;
-      audience = not_failing (accepts provider claims.aud) (E18 NoAudience) each.1;
+      audience = not_failing (accepts provider claims.aud) (E18 Audience) each.1;
       live = timed (timing_of claims now) each.2;
     }
 

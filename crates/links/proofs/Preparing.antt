@@ -1,6 +1,6 @@
 -- The steps of an entry's preparing are its licence and what its recording gives.
-use Rattle.std.proofs.Common.{◌≡◌, ℕ, List, [], ◌∷◌, length, Bool, true, false, not, refl, sym, ◌∙◌, ap, subst}
-use Rattle.std.specs.Prelude.{Option, None, Some, Result, Ok, Err, IfOk, IfErr, option_map, nat_lt, if◌then◌else◌}
+use Rattle.std.proofs.Common.{◌≡◌, ℕ, List, [], ◌∷◌, length, Bool, true, not, refl, sym, ◌∙◌, ap, subst}
+use Rattle.std.specs.Prelude.{Option, None, Some, Result, Ok, Err, IfOk, IfErr, option_map, nat_lt}
 use Rattle.std.specs.Result.{result_ok}
 use Rattle.std.specs.List.{list_all}
 use Rattle.base_types.specs.Rules.{fails_if, first_of}
@@ -19,102 +19,118 @@ use Rattle.links.specs.declared.fault.ApplyFault.{ApplyFault}
 use Rattle.links.specs.declared.fault.ApplyFault.TheVariants.{Unlicensed, Memory}
 use Rattle.links.specs.declared.fault.RuleCode.{RuleCode}
 use Rattle.links.specs.declared.fault.RuleCode.TheVariants.{E11, E25}
-use Rattle.links.specs.declared.federated.Signed.{Signed}
 use Rattle.links.specs.declared.prepared.Issued.{Issued}
 use Rattle.links.specs.declared.prepared.Plan.TheVariants as plan
+use Rattle.links.specs.declared.recorded.RecordedLink.{RecordedLink}
 use Rattle.links.specs.declared.source.Source.{Source}
-use Rattle.links.specs.Chain.{Chain, Root, chains_of}
+use Rattle.links.specs.Chain.{Chain, Root}
 use Rattle.links.specs.Facts.{facts_of}
-use Rattle.links.specs.Licence.{first_unlicensed, fault_of, knows_word, is_long, rule_of, prepared_of, Licensed, Prepares}
+use Rattle.links.specs.Licence.{first_unlicensed, fault_of, knows_word, is_long, rule_of, prepared_of, Licensed, Passes, Refuses}
 use Rattle.links.specs.Prepared.{PreparedEntry, planned}
 use Rattle.links.specs.Recorded.{recorded}
 use Rattle.links.specs.Sources.{passed}
 use Rattle.links.specs.State.{Content, link_of, made, made_by, source_at, federated_link, token_text}
 use Rattle.links.proofs.Chains.{length-chains_of}
-use Rattle.links.specs.Steps.{Gives, federated_chain, recorded_of, signed_by, issued_by, issued_of}
+
+-- ---- rules, one after another
+
+-- a step that refuses, refuses all that goes on from it
+pub refuses_on : {X Y : Type 0} (r : Result X RuleCode) (next : X → Result Y RuleCode) (fault : ApplyFault) → Refuses fault (fault_of r) → Refuses fault (fault_of (r >>= next))
+refuses_on (Ok x) next (Unlicensed rule) h = absurd (cc h)
+refuses_on (Ok x) next Memory h = tt
+refuses_on (Err rule) next fault h = h
+
+pub refuses_rule : {X : Type 0} (failed : Option RuleCode) (next : Result X RuleCode) (fault : ApplyFault) → Refuses fault failed → Refuses fault (fault_of (passed failed next))
+refuses_rule None next (Unlicensed rule) h = absurd (cc h)
+refuses_rule None next Memory h = tt
+refuses_rule (Some rule) next fault h = h
+
+-- the first rule of two is the first of three
+pub refuses_early : (a b c : Option RuleCode) (fault : ApplyFault) → Refuses fault (first_of (a ∷ b ∷ [])) → Refuses fault (first_of (a ∷ b ∷ c ∷ []))
+refuses_early (Some rule) b c fault h = h
+refuses_early None (Some rule) c fault h = h
+refuses_early None None c (Unlicensed rule) h = absurd (cc h)
+refuses_early None None c Memory h = tt
+
+one : (c : Option RuleCode) → first_of (c ∷ []) ≡ c
+one None = refl
+one (Some rule) = refl
+
+third : (a b c : Option RuleCode) → first_of (a ∷ b ∷ []) ≡ None → first_of (a ∷ b ∷ c ∷ []) ≡ c
+third None None c h = one c
+third None (Some rule) c h = absurd (cc h)
+third (Some rule) b c h = absurd (cc h)
+
+-- a step that can only want memory passes where no rule fails
+pub passes_but_memory : {X : Type 0} (r : Result X ApplyFault) (failed : Option RuleCode) → failed ≡ None → IfErr r (λ (f : ApplyFault). f ≡ Memory) → Passes r failed
+passes_but_memory (Ok x) failed none memory = none
+passes_but_memory (Err fault) failed none memory = subst (λ (f : ApplyFault). Refuses f failed) (sym memory) tt
 
 -- ---- the chain of the next link
 
-pub made_source : (c : Content) (x : Exchange) (source : Source) → source_at c x.provider x.token x.at ≡ Ok source → made c (entry.Federated x) ≡ Some (federated_chain c x source)
+abbrev next_root : Content → Exchange → Source → Chain
+next_root c x source = Root (record { number = length c.links; at = x.at; words = x.scope }) source
+
+pub made_source : (c : Content) (x : Exchange) (source : Source) → source_at c x.provider x.token x.at ≡ Ok source → made c (entry.Federated x) ≡ Some (next_root c x source)
 made_source c x source is =
     let link : link_of c (entry.Federated x) ≡ Some (federated_link x.scope x.at source) = ap (λ (r : Result Source RuleCode). option_map (federated_link x.scope x.at) (result_ok r)) is in
     ap (made_by c) link ∙ ap (λ (n : ℕ). Some (Root (record { number = n; at = x.at; words = x.scope }) source)) (length-chains_of c.links)
 
-abbrev signed_text : Content → Chain → List ℕ
-signed_text c chain = compact c.key (payload_text c.issuer (facts_of chain))
+-- what is held of it
+pub held_source : (c : Content) (x : Exchange) (source : Source) (r : Result RecordedLink ApplyFault) → source_at c x.provider x.token x.at ≡ Ok source
+    → IfOk r (λ (link : RecordedLink). link ≡ recorded (next_root c x source)) → IfOk r (λ (link : RecordedLink). Some link ≡ option_map recorded (made c (entry.Federated x)))
+held_source c x source (Ok link) is held = ap (λ (l : RecordedLink). Some l) held ∙ ap (λ (o : Option Chain). option_map recorded o) (sym (made_source c x source is))
+held_source c x source (Err fault) is held = tt
 
-text_is : (c : Content) (chain : Chain) → token_text c chain ≡ signed_text c chain
-unfolding token_text
-text_is c chain = refl
+-- the rules before the token's size
+abbrev before_token : Content → Exchange → Option RuleCode
+before_token c x = first_of (fails_if (not (list_all (knows_word c) x.scope)) E11 ∷ fault_of (source_at c x.provider x.token x.at) ∷ [])
 
-long_is : (c : Content) (x : Exchange) (source : Source) (long : Bool) → source_at c x.provider x.token x.at ≡ Ok source
-    → nat_lt 8192 (length (signed_text c (federated_chain c x source))) ≡ long → is_long c (made c (entry.Federated x)) ≡ long
-long_is c x source long is size =
-    ap (is_long c) (made_source c x source is) ∙ ap (λ (t : List ℕ). nat_lt 8192 (length t)) (text_is c (federated_chain c x source)) ∙ size
-
--- the exchange's rules, once its words and its source are known
-ruled : (c : Content) (x : Exchange) (source : Source) (long : Bool) → list_all (knows_word c) x.scope ≡ true → source_at c x.provider x.token x.at ≡ Ok source
-    → nat_lt 8192 (length (signed_text c (federated_chain c x source))) ≡ long → first_unlicensed c (entry.Federated x) ≡ first_of (fails_if long E25 ∷ [])
-unfolding first_unlicensed
-ruled c x source long known is size =
-    let length_rule = fails_if (is_long c (made c (entry.Federated x))) E25 in
-    ap (λ (k : Bool). first_of (fails_if (not k) E11 ∷ fault_of (source_at c x.provider x.token x.at) ∷ length_rule ∷ [])) known
-    ∙ ap (λ (s : Result Source RuleCode). first_of (fails_if (not true) E11 ∷ fault_of s ∷ length_rule ∷ [])) is
-    ∙ ap (λ (l : Bool). first_of (fails_if (not true) E11 ∷ fault_of {X = Source} (Ok source) ∷ fails_if l E25 ∷ [])) (long_is c x source long is size)
+pub known_source : (c : Content) (x : Exchange) (source : Source) → list_all (knows_word c) x.scope ≡ true → source_at c x.provider x.token x.at ≡ Ok source → before_token c x ≡ None
+known_source c x source known is = rw (known, is) refl
 
 -- ---- what is prepared
 
-abbrev Fits : Content → Exchange → Issued → Type 0
-Fits c x issued = (planned (plan.Federated x issued) ≡ prepared_of c (entry.Federated x)) × Licensed c (entry.Federated x)
+abbrev text_of : Content → RecordedLink → List ℕ
+text_of c link = compact c.key (payload_text c.issuer link.facts)
 
-abbrev made_up : Content → Chain → Issued
-made_up c chain = record { recorded = recorded chain; payload = payload_text c.issuer (facts_of chain); token = signed_text c chain }
+abbrev made_up : Content → RecordedLink → Issued
+made_up c link = record { recorded = link; payload = payload_text c.issuer link.facts; token = text_of c link }
 
-planned_is : (c : Content) (x : Exchange) (source : Source) → source_at c x.provider x.token x.at ≡ Ok source
-    → planned (plan.Federated x (made_up c (federated_chain c x source))) ≡ prepared_of c (entry.Federated x)
-planned_is c x source is = rw (made_source c x source is, text_is c (federated_chain c x source)) refl
+told : (c : Content) (x : Exchange) (made_chain : Option Chain) (link : RecordedLink) → Some link ≡ option_map recorded made_chain
+    → planned (plan.Federated x (made_up c link)) ≡ record {
+      entry = entry.Federated x;
+      recorded = option_map recorded made_chain;
+      payload = option_map (λ chain. payload_text c.issuer (facts_of chain)) made_chain;
+      token = option_map (token_text c) made_chain;
+    }
+unfolding token_text
+told c x None link is = absurd (cc is)
+told c x (Some chain) link is = let same : link ≡ recorded chain = cc is in rw same refl
 
-abbrev signed_if : Content → Chain → Bool → Result Signed RuleCode
-signed_if c chain long = if long then Err E25 else Ok (record { payload = payload_text c.issuer (facts_of chain); token = signed_text c chain })
+pub issued_is : (c : Content) (x : Exchange) (link : RecordedLink) (r : Result Issued ApplyFault) → Some link ≡ option_map recorded (made c (entry.Federated x))
+    → IfOk r (λ (issued : Issued). issued ≡ made_up c link) → IfOk r (λ (issued : Issued). planned (plan.Federated x issued) ≡ prepared_of c (entry.Federated x))
+issued_is c x link (Ok issued) is up = ap (λ (i : Issued). planned (plan.Federated x i)) up ∙ told c x (made c (entry.Federated x)) link is
+issued_is c x link (Err fault) is up = tt
 
-abbrev finished : Chain → Signed → Result Issued RuleCode
-finished chain signed = Ok (record { recorded = recorded chain; payload = signed.payload; token = signed.token })
+long : (c : Content) (made_chain : Option Chain) (link : RecordedLink) → Some link ≡ option_map recorded made_chain → is_long c made_chain ≡ nat_lt 8192 (length (text_of c link))
+unfolding token_text
+long c None link is = absurd (cc is)
+long c (Some chain) link is = let same : link ≡ recorded chain = cc is in rw same refl
 
-fits_by : (c : Content) (x : Exchange) (source : Source) (long : Bool) (issued : Issued) → list_all (knows_word c) x.scope ≡ true → source_at c x.provider x.token x.at ≡ Ok source
-    → nat_lt 8192 (length (signed_text c (federated_chain c x source))) ≡ long
-    → (signed_if c (federated_chain c x source) long >>= finished (federated_chain c x source)) ≡ Ok issued → Fits c x issued
-fits_by c x source true issued known is size ok = absurd (cc ok)
-fits_by c x source false issued known is size ok =
-    let same : made_up c (federated_chain c x source) ≡ issued = cc ok in
-    (subst (λ (i : Issued). planned (plan.Federated x i) ≡ prepared_of c (entry.Federated x)) same (planned_is c x source is), ruled c x source false known is size)
-
-fits_source : (c : Content) (x : Exchange) (known : Bool) (source : Result Source RuleCode) (issued : Issued) → list_all (knows_word c) x.scope ≡ known → source_at c x.provider x.token x.at ≡ source
-    → (passed (fails_if (not known) E11) (source >>= (λ s. Ok (recorded (federated_chain c x s)))) >>= (λ link. issued_by c link)) ≡ Ok issued → Fits c x issued
-fits_source c x true (Ok s) issued known is ok = fits_by c x s (nat_lt 8192 (length (signed_text c (federated_chain c x s)))) issued known is refl ok
-fits_source c x true (Err rule) issued known is ok = absurd (cc ok)
-fits_source c x false source issued known is ok = absurd (cc ok)
-
-pub prepares : (c : Content) (x : Exchange) (issued : Issued) → issued_of c x ≡ Ok issued → Fits c x issued
-prepares c x issued ok = fits_source c x (list_all (knows_word c) x.scope) (source_at c x.provider x.token x.at) issued refl refl ok
-
--- ---- what is refused
-
-long_by : (c : Content) (x : Exchange) (source : Source) (long : Bool) (rule : RuleCode) → list_all (knows_word c) x.scope ≡ true → source_at c x.provider x.token x.at ≡ Ok source
-    → nat_lt 8192 (length (signed_text c (federated_chain c x source))) ≡ long
-    → (signed_if c (federated_chain c x source) long >>= finished (federated_chain c x source)) ≡ Err rule → first_unlicensed c (entry.Federated x) ≡ Some rule
-long_by c x source true rule known is size err = let same : E25 ≡ rule = cc err in ruled c x source true known is size ∙ ap (λ (r : RuleCode). Some r) same
-long_by c x source false rule known is size err = absurd (cc err)
-
-refused_by : (c : Content) (x : Exchange) (known : Bool) (source : Result Source RuleCode) (rule : RuleCode) → list_all (knows_word c) x.scope ≡ known → source_at c x.provider x.token x.at ≡ source
-    → (passed (fails_if (not known) E11) (source >>= (λ s. Ok (recorded (federated_chain c x s)))) >>= (λ link. issued_by c link)) ≡ Err rule → first_unlicensed c (entry.Federated x) ≡ Some rule
+pub size_last : {X : Type 0} (c : Content) (x : Exchange) (link : RecordedLink) (r : Result X ApplyFault) → Some link ≡ option_map recorded (made c (entry.Federated x)) → before_token c x ≡ None
+    → Passes r (fails_if (nat_lt 8192 (length (text_of c link))) E25) → Passes r (first_unlicensed c (entry.Federated x))
 unfolding first_unlicensed
-refused_by c x true (Ok s) rule known is err = long_by c x s (nat_lt 8192 (length (signed_text c (federated_chain c x s)))) rule known is refl err
-refused_by c x true (Err fault) rule known is err = let same : fault ≡ rule = cc err in rw (known, is) (ap (λ (r : RuleCode). Some r) same)
-refused_by c x false source rule known is err = let same : E11 ≡ rule = cc err in rw known (ap (λ (r : RuleCode). Some r) same)
+size_last c x link r is none size =
+    let last = fails_if (is_long c (made c (entry.Federated x))) E25 in
+    let same : last ≡ fails_if (nat_lt 8192 (length (text_of c link))) E25 = ap (λ (b : Bool). fails_if b E25) (long c (made c (entry.Federated x)) link is) in
+    let whole = third (fails_if (not (list_all (knows_word c) x.scope)) E11) (fault_of (source_at c x.provider x.token x.at)) last none ∙ same in
+    subst (λ (failed : Option RuleCode). Passes r failed) (sym whole) size
 
-pub refused_at : (c : Content) (x : Exchange) (fault : ApplyFault) → Gives (λ (issued : Issued). issued) (Err fault) (issued_of c x) → Prepares c (entry.Federated x) (Err fault)
-refused_at c x (Unlicensed rule) is = refused_by c x (list_all (knows_word c) x.scope) (source_at c x.provider x.token x.at) rule refl refl is
-refused_at c x Memory is = tt
+pub refused_before : (c : Content) (x : Exchange) (fault : ApplyFault) → Refuses fault (before_token c x) → Refuses fault (first_unlicensed c (entry.Federated x))
+unfolding first_unlicensed
+refused_before c x fault h =
+    refuses_early (fails_if (not (list_all (knows_word c) x.scope)) E11) (fault_of (source_at c x.provider x.token x.at)) (fails_if (is_long c (made c (entry.Federated x))) E25) fault h
 
 -- ---- commands
 
@@ -138,7 +154,7 @@ put_refused c command fault is = ap (λ (f : Option PutFault). option_map rule_o
 
 -- ---- room
 
-pub room_prepares : (c : Content) (e : Entry) (p : PreparedEntry) (r : Result PreparedEntry ApplyFault) → (p ≡ prepared_of c e) × Licensed c e
-    → IfOk r (λ (q : PreparedEntry). q ≡ p) → IfErr r (λ (f : ApplyFault). f ≡ Memory) → Prepares c e r
-room_prepares c e p (Ok q) fits ok err = (ok ∙ fits.0, fits.1)
-room_prepares c e p (Err fault) fits ok err = subst (λ (f : ApplyFault). Prepares c e (Err f)) (sym err) tt
+pub room_prepared : (c : Content) (e : Entry) (p : PreparedEntry) (r : Result PreparedEntry ApplyFault) → p ≡ prepared_of c e
+    → IfOk r (λ (q : PreparedEntry). q ≡ p) → IfOk r (λ (q : PreparedEntry). q ≡ prepared_of c e)
+room_prepared c e p (Ok q) is ok = ok ∙ is
+room_prepared c e p (Err fault) is ok = tt

@@ -6,7 +6,7 @@ use Rattle.service_view.specs.View.{View, pool_enabled}
 use Rattle.links.specs.Chain.{Chain, Root, own}
 use Rattle.links.specs.Facts.{exp_of, who_of, pools_in}
 
--- what has to be enabled for the link itself: the pool of its outside token
+-- what has to be enabled for the link itself: the pool of its subject token
 abbrev pub enabled_here : View → Chain → Bool
 enabled_here view (Root o source) = list_all (pool_enabled view) (pools_in source.who)
 

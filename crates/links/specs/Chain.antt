@@ -18,10 +18,11 @@ pub record Own : Type 0 where
   pub at : ℕ
   pub words : List (List ℕ)
 
--- a link with the links that it was made from, down to the outside tokens
+-- a link with the links that it was made from, down to the subject tokens
 pub data Chain : Type 0 where
   Root : Own → Source → Chain
 
+-- what the last link of a chain has of its own
 abbrev pub own : Chain → Own
 own (Root o source) = o
 
@@ -30,6 +31,7 @@ abbrev pub joined : Option (Option Chain) → Option Chain
 joined None = None
 joined (Some chain) = chain
 
+-- the chain of that number, where there is one
 abbrev pub chain_at : List (Option Chain) → ℕ → Option Chain
 chain_at chains n = joined (slice_get chains n)
 
@@ -41,6 +43,7 @@ chain_of_kind o chains (Federated source) = Some (Root o source)
 abbrev pub own_at : ℕ → Link → Own
 own_at n link = record { number = n; at = link.at; words = link.words }
 
+-- the chain of a link behind those that are there
 abbrev pub next_chain : List (Option Chain) → Link → Option Chain
 next_chain chains link = chain_of_kind (own_at (length chains) link) chains link.kind
 
@@ -49,5 +52,6 @@ abbrev pub chains_after : List (Option Chain) → List Link → List (Option Cha
 chains_after chains [] = chains
 chains_after chains (link ∷ links) = chains_after (chains ++ next_chain chains link ∷ []) links
 
+-- the chains of the links, in order
 unfoldable pub chains_of : List Link → List (Option Chain)
 chains_of links = chains_after [] links

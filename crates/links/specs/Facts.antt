@@ -7,7 +7,7 @@ use Rattle.access_token.specs.declared.facts.Facts.{Facts}
 use Rattle.access_token.specs.Facts.{name_of}
 use Rattle.links.specs.Chain.{Chain, Root, own}
 
--- the moment from which on the link isn't live: that of the outside token, and at most 3,600 seconds after the exchange
+-- the moment from which on the link isn't live: that of the subject token, and at most 3,600 seconds after the exchange
 abbrev pub exp_of : Chain → ℕ
 exp_of (Root o source) = min source.exp (o.at + 3600)
 
@@ -23,16 +23,12 @@ act_of (Root o source) = []
 abbrev pub may_act_of : Chain → List (List ℕ)
 may_act_of (Root o source) = source.may_act
 
--- how many links there are on the longest way to an outside token
-abbrev pub depth_of : Chain → ℕ
-depth_of (Root o source) = 1
-
 -- the pool of an identity
 abbrev pub pools_in : Who → List PoolName
 pools_in (Outside pool identity) = pool ∷ []
 pools_in (Account account) = []
 
--- the pools of the outside tokens
+-- the pools of the subject tokens
 abbrev pub pools_of : Chain → List PoolName
 pools_of (Root o source) = pools_in source.who
 

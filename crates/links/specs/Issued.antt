@@ -9,6 +9,7 @@ abbrev pub place_of : {A : Type 0} → (A → Bool) → List A → Option ℕ
 place_of test [] = None
 place_of test (x ∷ xs) = if test x then Some 0 else option_map (λ n. n + 1) (place_of test xs)
 
+-- the text is that of the chain's token
 abbrev pub is_text_of : Content → List ℕ → Option Chain → Bool
 is_text_of c text None = false
 is_text_of c text (Some chain) = bytes_eq (token_text c chain) text

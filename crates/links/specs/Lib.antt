@@ -9,4 +9,3 @@ pub mod Recorded
 pub mod Shown
 pub mod Sources
 pub mod State
-pub mod Steps

@@ -4,7 +4,6 @@ use Rattle.std.specs.List.{list_all}
 use Rattle.base_types.specs.Rules.{fails_if, first_of}
 use Rattle.links.specs.declared.entry.Entry.{Entry}
 use Rattle.links.specs.declared.entry.Entry.TheVariants as entry
-use Rattle.links.specs.declared.entry.Exchange.{Exchange}
 use Rattle.links.specs.declared.fault.RuleCode.{RuleCode}
 use Rattle.links.specs.declared.fault.RuleCode.TheVariants.{E11, E25, A4, A6}
 use Rattle.links.specs.declared.fault.ApplyFault.{ApplyFault}
@@ -27,10 +26,12 @@ use Rattle.service_view.specs.Puts.{put_fault}
 abbrev pub knows_word : Content → List ℕ → Bool
 knows_word c word = knows_scope c.view.lists word
 
+-- the rule that a result fails
 abbrev pub fault_of : {X : Type 0} → Result X RuleCode → Option RuleCode
 fault_of (Ok x) = None
 fault_of (Err rule) = Some rule
 
+-- the chain's token has over 8,192 bytes
 abbrev pub is_long : Content → Option Chain → Bool
 is_long c None = true
 is_long c (Some chain) = nat_lt 8192 (length (token_text c chain))
@@ -49,6 +50,7 @@ first_unlicensed c (entry.Federated x) = first_of (
     fault_of (source_at c x.provider x.token x.at) ∷
     fails_if (is_long c (made c (entry.Federated x))) E25 ∷ [])
 
+-- no rule forbids recording the entry
 abbrev pub Licensed : Content → Entry → Type 0
 Licensed c e = first_unlicensed c e ≡ None
 
@@ -78,14 +80,12 @@ prepared_of c e = record {
   token = option_map (token_text c) (made c e);
 }
 
--- The entry is prepared, or the first rule forbids it.
-abbrev pub Prepares : Content → Entry → Result PreparedEntry ApplyFault → Type 0
-Prepares c e (Ok prepared) = (prepared ≡ prepared_of c e) × Licensed c e
-Prepares c e (Err (Unlicensed rule)) = first_unlicensed c e ≡ Some rule
-Prepares c e (Err Memory) = ⊤
+-- The fault says the rule that fails, and want of memory says nothing.
+abbrev pub Refuses : ApplyFault → Option RuleCode → Type 0
+Refuses (Unlicensed rule) failed = failed ≡ Some rule
+Refuses Memory failed = ⊤
 
--- The entry is applied, or the first rule forbids it.
-abbrev pub Applies : Content → Entry → Result ⊤ ApplyFault → Type 0
-Applies c e (Ok done) = Licensed c e
-Applies c e (Err (Unlicensed rule)) = first_unlicensed c e ≡ Some rule
-Applies c e (Err Memory) = ⊤
+-- No rule fails, or the fault says the one that does.
+abbrev pub Passes : {X : Type 0} → Result X ApplyFault → Option RuleCode → Type 0
+Passes (Ok x) failed = failed ≡ None
+Passes (Err fault) failed = Refuses fault failed

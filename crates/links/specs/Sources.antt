@@ -1,4 +1,4 @@
--- What an outside token gives under a provider, or the first rule that it fails.
+-- What a subject token gives under a provider, or the first rule that it fails.
 use Rattle.std.specs.Prelude.{ℕ, List, [], ◌∷◌, ◌++◌, length, codes, Bool, not, ◌||◌, Option, None, Some, option_and_then, nat_lt, Result, Ok, Err, if◌then◌else◌}
 use Rattle.std.specs.List.{list_any}
 use Rattle.std.specs.Str.{bytes_eq}
@@ -20,13 +20,14 @@ use Rattle.iam_names.specs.declared.who.Who.TheVariants.{Outside}
 use Rattle.service_config.specs.Configuration.{provider_name}
 use Rattle.iam_names.specs.Audience.{audience_text}
 use Rattle.service_config.specs.declared.config.StartProvider.{StartProvider}
-use Rattle.links.specs.declared.fault.MapFault.TheVariants.{Issuer, Audience as NoAudience, Expired, NotYet, Subject, TooLong}
+use Rattle.links.specs.declared.fault.MapFault.TheVariants.{Issuer, Audience, Expired, NotYet, Subject, TooLong}
 use Rattle.links.specs.declared.fault.RuleCode.{RuleCode}
 use Rattle.links.specs.declared.fault.RuleCode.TheVariants.{E16, E17, E18, E19}
 use Rattle.links.specs.declared.source.Source.{Source}
 
 -- ---- the signature and the claims
 
+-- the payload, where the signature has no fault
 abbrev pub opened_by : Option JwsFault → List ℕ → Result (List ℕ) RuleCode
 opened_by None payload = Ok payload
 opened_by (Some fault) payload = Err (E16 fault)
@@ -35,6 +36,7 @@ opened_by (Some fault) payload = Err (E16 fault)
 abbrev pub opened : List ℕ → List ℕ → Result (List ℕ) RuleCode
 opened key token = opened_by (first_jws_fault key token) (payload_of token)
 
+-- the claims of a payload, or the rule that it fails
 abbrev pub claimed_by : Result Claims ClaimFault → Result Claims RuleCode
 claimed_by (Ok claims) = Ok claims
 claimed_by (Err fault) = Err (E17 fault)
@@ -45,9 +47,11 @@ claimed_by (Err fault) = Err (E17 fault)
 abbrev pub is_acceptable : List ℕ → List ℕ → Bool
 is_acceptable name audience = bytes_eq audience name || bytes_eq audience (codes "https:" ++ name)
 
+-- one of the audiences is acceptable
 abbrev pub accepts : StartProvider → List (List ℕ) → Bool
 accepts provider audiences = list_any (is_acceptable (audience_text (provider_name provider))) audiences
 
+-- the rule that a token fails at the moment
 abbrev pub timing_fault : When → Option RuleCode
 timing_fault Live = None
 timing_fault IsExpired = Some (E18 Expired)
@@ -58,6 +62,7 @@ abbrev pub value_in : List MapEntry → List ℕ → Option Value
 value_in [] key = None
 value_in (entry ∷ entries) key = if bytes_eq entry.key key then Some entry.value else value_in entries key
 
+-- the text that a value is
 abbrev pub text_of_value : Value → Option (List ℕ)
 text_of_value v = text (out-Value v)
   where
@@ -65,6 +70,7 @@ text_of_value v = text (out-Value v)
     text (Value-F.Text t) = Some t
     text _ = None
 
+-- what stands under a key of a map
 abbrev pub value_under : Value → List ℕ → Option Value
 value_under v key = under (out-Value v)
   where
@@ -87,9 +93,10 @@ subject_by (Some subject) =
 unfoldable pub first_admission_fault : StartProvider → Claims → ℕ → Option RuleCode
 first_admission_fault provider claims now = first_of (
     fails_if (not (bytes_eq claims.iss provider.issuer)) (E18 Issuer) ∷
-    fails_if (not (accepts provider claims.aud)) (E18 NoAudience) ∷
+    fails_if (not (accepts provider claims.aud)) (E18 Audience) ∷
     timing_fault (timing_of claims now) ∷ [])
 
+-- what follows, unless a rule forbids it
 abbrev pub passed : {X : Type 0} → Option RuleCode → Result X RuleCode → Result X RuleCode
 passed None next = next
 passed (Some rule) next = Err rule
@@ -107,6 +114,7 @@ who_of_claims provider claims now =
 abbrev pub source_by : Claims → Who → Source
 source_by claims who = record { who = who; exp = claims.exp; may_act = claims.may_act }
 
+-- what claims give at the moment, or the first rule that they fail
 unfoldable pub source_of_claims : StartProvider → Claims → ℕ → Result Source RuleCode
 source_of_claims provider claims now = who_of_claims provider claims now >>= (λ who. Ok (source_by claims who))
 

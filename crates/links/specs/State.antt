@@ -1,5 +1,5 @@
 -- The state that a journal's entries leave.
-use Rattle.std.specs.Prelude.{◌≡◌, ℕ, ◌+◌, List, [], ◌∷◌, ◌++◌, length, Option, None, Some, option_map, not, Result, Ok, Err, if◌then◌else◌}
+use Rattle.std.specs.Prelude.{ℕ, ◌+◌, List, [], ◌∷◌, ◌++◌, Option, None, Some, option_map, not, Result, Ok, Err, if◌then◌else◌}
 use Rattle.std.specs.Result.{result_ok}
 use Rattle.std.specs.Str.{bytes_eq}
 use Rattle.base_types.specs.Rules.{fails_if}
@@ -11,8 +11,6 @@ use Rattle.access_token.specs.Payload.{payload_text}
 use Rattle.service_config.specs.declared.config.Config.{Config}
 use Rattle.service_config.specs.declared.config.StartProvider.{StartProvider}
 use Rattle.service_config.specs.Configuration.{provider_name}
-use Rattle.service_view.specs.declared.ready_command.Ready.{Ready}
-use Rattle.service_view.specs.Puts.{command_of, made_ready}
 use Rattle.service_view.specs.View.{View, start_view, view_after, pool_enabled}
 use Rattle.links.specs.declared.entry.Entry.{Entry}
 use Rattle.links.specs.declared.entry.Entry.TheVariants as entry
@@ -39,6 +37,7 @@ pub record Kept : Type 0 where
   pub content : Content
   pub spare : ℕ
 
+-- the provider's pool
 abbrev pub pool_of : Option StartProvider → Option PoolName
 pool_of start = option_map (λ provider. provider.pool) start
 
@@ -51,10 +50,11 @@ abbrev pub named : Option StartProvider → Audience → Result StartProvider Ru
 named None name = Err E14
 named (Some provider) name = if bytes_eq (audience_text (provider_name provider)) (audience_text name) then Ok provider else Err E14
 
--- what the outside token gives, or the first rule that it fails
+-- what the subject token gives, or the first rule that it fails
 abbrev pub source_at : Content → Audience → List ℕ → ℕ → Result Source RuleCode
 source_at c provider token now = named c.start provider >>= (λ p. passed (fails_if (not (pool_enabled c.view p.pool)) E15) (source_of p token now))
 
+-- the link of an exchange at that moment for these words
 abbrev pub federated_link : List (List ℕ) → ℕ → Source → Link
 federated_link words at source = record { at = at; words = words; kind = Kind.Federated source }
 
@@ -63,14 +63,10 @@ abbrev pub link_of : Content → Entry → Option Link
 link_of c (entry.Put command) = None
 link_of c (entry.Federated x) = option_map (federated_link x.scope x.at) (result_ok (source_at c x.provider x.token x.at))
 
+-- the links with this one behind them, if there is one
 abbrev pub with_link : List Link → Option Link → List Link
 with_link links None = links
 with_link links (Some link) = links ++ link ∷ []
-
--- the command that an entry places
-abbrev pub ready_of : Entry → Option Ready
-ready_of (entry.Put command) = Some (made_ready command)
-ready_of (entry.Federated x) = None
 
 -- what stands under the names behind an entry
 abbrev pub view_behind : View → Entry → View
@@ -101,11 +97,12 @@ content_of config journal = state_after (start_of config) journal
 abbrev pub chain : Content → ℕ → Option Chain
 chain c n = chain_at (chains_of c.links) n
 
--- the chain of the link that the entry would record
+-- the chain of the link behind those that are recorded, if there is one
 abbrev pub made_by : Content → Option Link → Option Chain
 made_by c None = None
 made_by c (Some link) = next_chain (chains_of c.links) link
 
+-- the chain of the link that the entry would record
 abbrev pub made : Content → Entry → Option Chain
 made c e = made_by c (link_of c e)
 

@@ -2,7 +2,7 @@ use base_types::{Items, Text};
 use iam_names::{Audience, ScopeWord};
 use service_view::Command;
 
-/// An outside token that became an access token.
+/// A subject token that became an access token.
 #[derive(Debug, Drop)]
 pub struct Exchange {
     pub provider: Audience,

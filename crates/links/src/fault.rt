@@ -25,15 +25,15 @@ pub enum RuleCode {
     E11,
     /// The provider is unknown.
     E14,
-    /// The provider's pool is switched off.
+    /// The provider's pool is disabled.
     E15,
-    /// The outside token isn't signed under the provider's key.
+    /// The subject token isn't signed under the provider's key.
     E16(JwsFault),
-    /// The outside token's payload has no claims.
+    /// The subject token's payload has no claims.
     E17(ClaimFault),
-    /// The outside token isn't meant for the provider at this moment.
+    /// The subject token isn't meant for the provider at this moment.
     E18(MapFault),
-    /// The outside token's claims give no identity.
+    /// The subject token's claims give no identity.
     E19(MapFault),
     /// The access token would have over 8,192 bytes.
     E25,

@@ -1,19 +1,23 @@
-ghost use Rattle.std.specs.Prelude.{◌≡◌, ◌≤◌, ◌∷◌, [], ℕ, List, IfOk, Ok, not};
+ghost use Rattle.std.specs.Prelude.{◌≡◌, ◌≤◌, ◌∷◌, [], ℕ, List, IfOk, IfErr, Ok, Some, length, nat_lt, not, option_map};
 ghost use Rattle.std.specs.List.{list_all};
 ghost use Rattle.std.specs.Str.{bytes_eq};
-ghost use Rattle.base_types.specs.Rules.{fails_if};
+ghost use Rattle.base_types.specs.Rules.{fails_if, first_of};
+ghost use Rattle.hmac_jws.specs.Compact.{compact};
 ghost use Rattle.iam_names.specs.Audience.{audience_text};
 ghost use Rattle.access_token.specs.Facts.{name_of};
+ghost use Rattle.access_token.specs.Payload.{payload_text};
 ghost use Rattle.service_config.specs.Configuration.{provider_name};
 ghost use Rattle.service_view.specs.View.{cloud_platform as word_from_start, pool_enabled};
-ghost use Rattle.links.specs.declared.fault.RuleCode.TheVariants.{E11, E15};
+ghost use Rattle.links.specs.declared.entry.Entry.TheVariants as entries;
+ghost use Rattle.links.specs.declared.prepared.Plan.TheVariants as plans;
+ghost use Rattle.links.specs.declared.fault.RuleCode.TheVariants.{E11, E15, E25};
 ghost use Rattle.links.specs.Chain.{Root};
 ghost use Rattle.links.specs.Entries.{IsExchange};
 ghost use Rattle.links.specs.Facts.{pools_in};
-ghost use Rattle.links.specs.Licence.{knows_word};
+ghost use Rattle.links.specs.Licence.{Passes, fault_of, first_unlicensed, knows_word, prepared_of};
+ghost use Rattle.links.specs.Prepared.{planned};
 ghost use Rattle.links.specs.Recorded.{recorded};
-ghost use Rattle.links.specs.State.{source_at, named};
-ghost use Rattle.links.specs.Steps.{Gives, Passes, federated_chain, issued_by, issued_of, recorded_of, signed_by};
+ghost use Rattle.links.specs.State.{made, named, source_at};
 
 use crate::prepared::Issued;
 use crate::source::{Source, name_of, read_source};
@@ -42,16 +46,20 @@ pub fn all_permissions(alloc: Global) -> Result<Items<ScopeWord>, AllocError>
 }
 
 /// The link that an exchange records, with its token, or the first rule that forbids it.
+#[tactic(auto, using(crate::proofs::Preparing::refused_before))]
 pub(crate) fn issue(alloc: Global, state: &State, exchange: &Exchange) -> Result<Issued, ApplyFault>
     requires { IsExchange exchange.now }
-    ensures { Gives (λ issued. issued) result (issued_of state.now.content exchange.now) }
+    ensures licensed { Passes result (first_unlicensed state.now.content (entries.Federated exchange.now)) }
+    ensures issued { IfOk result (λ issued. planned (plans.Federated exchange.now issued) ≡ prepared_of state.now.content (entries.Federated exchange.now)) }
 {
     let recorded = link_for(alloc, state, exchange)?;
     with_token(alloc, state, recorded)
 }
 
 fn with_token(alloc: Global, state: &State, recorded: RecordedLink) -> Result<Issued, ApplyFault>
-    ensures { Gives (λ issued. issued) result (issued_by state.now.content recorded) }
+    ensures issued { IfOk result (λ issued. let payload = payload_text state.now.content.issuer recorded.facts in
+        issued ≡ record { recorded = recorded; payload = payload; token = compact state.now.content.key payload }) }
+    ensures size { Passes result (fails_if (nat_lt 8192 (length (compact state.now.content.key (payload_text state.now.content.issuer recorded.facts)))) E25) }
 {
     match sign_facts(alloc, state, &recorded.facts) {
         Ok(signed) => Ok(Issued {
@@ -68,13 +76,15 @@ fn with_token(alloc: Global, state: &State, recorded: RecordedLink) -> Result<Is
 
 // A token's payload and text.
 #[derive(Debug, Drop)]
-pub(crate) struct Signed {
-    pub(crate) payload: Text,
-    pub(crate) token: Text,
+struct Signed {
+    payload: Text,
+    token: Text,
 }
 
 fn sign_facts(alloc: Global, state: &State, facts: &Facts) -> Result<Signed, ApplyFault>
-    ensures { Gives (λ signed. signed) result (signed_by state.now.content facts.now) }
+    ensures signed { IfOk result (λ signed. let payload = payload_text state.now.content.issuer facts.now in
+        signed ≡ record { payload = payload; token = compact state.now.content.key payload }) }
+    ensures size { Passes result (fails_if (nat_lt 8192 (length (compact state.now.content.key (payload_text state.now.content.issuer facts.now)))) E25) }
 {
     let payload = write_payload(alloc, state.issuer(), facts)?;
     let token = sign(alloc, state.key(), payload.as_str().as_bytes())?;
@@ -96,7 +106,9 @@ fn unlicensed(rule: RuleCode) -> ApplyFault
 // The link that an exchange would record.
 fn link_for(alloc: Global, state: &State, exchange: &Exchange) -> Result<RecordedLink, ApplyFault>
     requires { IsExchange exchange.now }
-    ensures { Gives (λ link. link) result (recorded_of state.now.content exchange.now) }
+    ensures link { IfOk result (λ link. Some link ≡ option_map recorded (made state.now.content (entries.Federated exchange.now))) }
+    ensures passes { Passes result (first_of (fails_if (not (list_all (knows_word state.now.content) exchange.now.scope)) E11
+        ∷ fault_of (source_at state.now.content exchange.now.provider exchange.now.token exchange.now.at) ∷ [])) }
 {
     check_words(state, exchange.scope.as_slice())?;
     let source = source_in(
@@ -116,7 +128,9 @@ fn link_from(
     source: Source,
 ) -> Result<RecordedLink, ApplyFault>
     requires { IsExchange exchange.now }
-    ensures { Gives (λ link. link) result (Ok (recorded (federated_chain state.now.content exchange.now source))) }
+    ensures link { IfOk result (λ link. link
+        ≡ recorded (Root (record { number = length state.now.content.links; at = exchange.now.at; words = exchange.now.scope }) source)) }
+    ensures memory { IfErr result (λ fault. fault ≡ ApplyFault.Memory) }
 {
     match show(alloc, &source.who, exchange.scope.as_slice()) {
         Ok(shown) => Ok(recorded_link(alloc, state.link_count(), exchange.at, shown, source)),
@@ -221,7 +235,8 @@ fn source_in(
     token: &str,
     now: u64,
 ) -> Result<Source, ApplyFault>
-    ensures { Gives (λ source. source) result (source_at state.now.content provider.now token.now now) }
+    ensures source { IfOk result (λ source. source_at state.now.content provider.now token.now now ≡ Ok source) }
+    ensures passes { Passes result (fault_of (source_at state.now.content provider.now token.now now)) }
 {
     let provider = provider_named(alloc, state, provider)?;
     check_pool(state, provider)?;
@@ -242,7 +257,8 @@ fn provider_named<'a>(
     state: &'a State,
     name: &Audience,
 ) -> Result<&'a StartProvider, ApplyFault>
-    ensures { Gives (λ provider. provider.now) result (named state.now.content.start name.now) }
+    ensures provider { IfOk result (λ provider. named state.now.content.start name.now ≡ Ok provider.now) }
+    ensures passes { Passes result (fault_of (named state.now.content.start name.now)) }
 {
     let Some(provider) = state.start_provider() else {
         return Err(unlicensed(RuleCode::E14));

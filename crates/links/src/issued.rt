@@ -17,8 +17,7 @@ use std::alloc::{AllocError, Global};
 pub fn find_issued(alloc: Global, state: &State, text: &str) -> Result<Option<u32>, AllocError>
     ensures { IfOk result (λ found. found ≡ issued_link state.now.content text.now) }
 {
-    // Their contracts say what holds of every state.
-    let (_reached, _few) = (state.entry_count(), state.link_count());
+    state.has_a_lawful_journal();
     let Some(number) = told_number(alloc, state.key(), text)? else {
         return Ok(None);
     };

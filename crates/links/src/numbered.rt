@@ -24,7 +24,7 @@ pub fn facts_of(state: &State, number: u32) -> &Facts
 }
 
 /// Whether the link is live at the moment `now`, in seconds since 1970-01-01T00:00:00Z: it isn't expired, and the pool of its
-/// outside token is enabled.
+/// subject token is enabled.
 pub fn live(state: &State, number: u32, now: u64) -> bool
     requires { number < length state.now.content.links }
     ensures { option_map (λ found. lives state.now.content.view found now) (chain state.now.content number) ≡ Some result }
@@ -58,7 +58,8 @@ pub fn words_of(state: &State, number: u32) -> &[ScopeWord]
 /// The payload of the link's token.
 pub fn payload_of(alloc: Global, state: &State, number: u32) -> Result<Text, AllocError>
     requires { number < length state.now.content.links }
-    ensures { IfOk result (λ payload. option_map (λ found. payload_text state.now.content.issuer (facts_in found)) (chain state.now.content number) ≡ Some payload) }
+    ensures { IfOk result (λ payload. option_map (λ found. payload_text state.now.content.issuer (facts_in found))
+        (chain state.now.content number) ≡ Some payload) }
 {
     write_payload(alloc, state.issuer(), facts_of(state, number))
 }

@@ -3,7 +3,7 @@ use access_token::Facts;
 /// How a link came about, beside what its token says.
 #[derive(Debug, Drop)]
 pub enum RecordedKind {
-    /// An outside token was exchanged that expires at this moment.
+    /// A subject token was exchanged that expires at this moment.
     Federated { exp: u64 },
 }
 

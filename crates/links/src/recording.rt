@@ -2,7 +2,7 @@ ghost use Rattle.std.specs.Prelude.{◌≡◌, ◌≤◌, ◌<◌, ◌-◌, ◌^
 ghost use Rattle.links.specs.declared.entry.Entry.TheVariants as entries;
 ghost use Rattle.links.specs.declared.fault.ApplyFault.{ApplyFault as Fault};
 ghost use Rattle.links.specs.Entries.{IsEntry, IsExchange};
-ghost use Rattle.links.specs.Licence.{Prepares, Applies, Licensed, prepared_of};
+ghost use Rattle.links.specs.Licence.{Licensed, Passes, first_unlicensed, prepared_of};
 ghost use Rattle.links.specs.Prepared.{planned};
 ghost use Rattle.links.specs.State.{after};
 
@@ -17,7 +17,8 @@ use std::alloc::{AllocError, Global};
 pub fn prepare(alloc: Global, state: &mut State, entry: Entry) -> Result<Prepared, ApplyFault>
     requires room { state.old.content.count < 2 ^ 32 - 1 }
     requires form { IsEntry entry }
-    ensures prepared { Prepares state.old.content entry result }
+    ensures licensed { Passes result (first_unlicensed state.old.content entry) }
+    ensures prepared { IfOk result (λ prepared. prepared ≡ prepared_of state.old.content entry) }
     ensures content { state.new.content ≡ state.old.content }
     ensures room { OnOk result (1 ≤ state.new.spare) }
 {
@@ -28,7 +29,8 @@ pub fn prepare(alloc: Global, state: &mut State, entry: Entry) -> Result<Prepare
 }
 
 fn prepare_put(state: &mut State, command: Command) -> Result<Prepared, ApplyFault>
-    ensures prepared { Prepares state.old.content (entries.Put command) result }
+    ensures licensed { Passes result (first_unlicensed state.old.content (entries.Put command)) }
+    ensures prepared { IfOk result (λ prepared. prepared ≡ prepared_of state.old.content (entries.Put command)) }
     ensures content { state.new.content ≡ state.old.content }
     ensures room { OnOk result (1 ≤ state.new.spare) }
 {
@@ -47,7 +49,8 @@ fn prepare_exchange(
 ) -> Result<Prepared, ApplyFault>
     requires room { state.old.content.count < 2 ^ 32 - 1 }
     requires form { IsExchange exchange }
-    ensures prepared { Prepares state.old.content (entries.Federated exchange) result }
+    ensures licensed { Passes result (first_unlicensed state.old.content (entries.Federated exchange)) }
+    ensures prepared { IfOk result (λ prepared. prepared ≡ prepared_of state.old.content (entries.Federated exchange)) }
     ensures content { state.new.content ≡ state.old.content }
     ensures room { OnOk result (1 ≤ state.new.spare) }
 {
@@ -91,7 +94,7 @@ pub fn commit(state: &mut State, prepared: Prepared)
 pub fn apply(alloc: Global, state: &mut State, entry: Entry) -> Result<(), ApplyFault>
     requires room { state.old.content.count < 2 ^ 32 - 1 }
     requires form { IsEntry entry }
-    ensures applied { Applies state.old.content entry result }
+    ensures licensed { Passes result (first_unlicensed state.old.content entry) }
     ensures done { OnOk result (state.new.content ≡ after state.old.content entry) }
     ensures refused { OnErr result (state.new.content ≡ state.old.content) }
 {

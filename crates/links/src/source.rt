@@ -1,11 +1,12 @@
-ghost use Rattle.std.specs.Prelude.{◌≡◌, ◌++◌, ◌||◌, Some, Ok, IfOk, codes, option_map};
+ghost use Rattle.std.specs.Prelude.{◌≡◌, ◌++◌, ◌||◌, Some, Ok, IfOk, IfErr, codes, option_map};
 ghost use Rattle.std.specs.List.{list_any};
 ghost use Rattle.std.specs.Str.{bytes_eq};
 ghost use Rattle.iam_names.specs.Audience.{audience_text};
 ghost use Rattle.wif_claims.specs.Payload.{claims_of};
 ghost use Rattle.service_config.specs.Configuration.{provider_name};
-ghost use Rattle.links.specs.Sources.{source_of, source_of_claims, who_of_claims, outside_of, first_admission_fault, opened, claimed_by, is_acceptable, subject_claim, subject_by, text_of_value, value_under, value_in};
-ghost use Rattle.links.specs.Steps.{Gives, Passes};
+ghost use Rattle.links.specs.Licence.{Passes, fault_of};
+ghost use Rattle.links.specs.Sources.{source_of, source_of_claims, who_of_claims, outside_of, first_admission_fault, opened, claimed_by};
+ghost use Rattle.links.specs.Sources.{is_acceptable, subject_claim, subject_by, text_of_value, value_under, value_in};
 
 use crate::{ApplyFault, MapFault, RuleCode};
 use base_types::{Items, Text, TextMap};
@@ -40,7 +41,8 @@ pub(crate) fn read_source(
     token: &str,
     now: u64,
 ) -> Result<Source, ApplyFault>
-    ensures { Gives (λ source. source) result (source_of provider.now token.now now) }
+    ensures source { IfOk result (λ source. source_of provider.now token.now now ≡ Ok source) }
+    ensures passes { Passes result (fault_of (source_of provider.now token.now now)) }
 {
     let verified = open(alloc, provider, token)?;
     let claims = claims_from(alloc, verified)?;
@@ -48,7 +50,8 @@ pub(crate) fn read_source(
 }
 
 fn open(alloc: Global, provider: &StartProvider, token: &str) -> Result<Verified, ApplyFault>
-    ensures { Gives (λ verified. verified.payload) result (opened provider.now.key token.now) }
+    ensures verified { IfOk result (λ verified. opened provider.now.key token.now ≡ Ok verified.payload) }
+    ensures passes { Passes result (fault_of (opened provider.now.key token.now)) }
 {
     match verify(alloc, provider.key.as_slice(), token) {
         Ok(verified) => Ok(verified),
@@ -58,7 +61,8 @@ fn open(alloc: Global, provider: &StartProvider, token: &str) -> Result<Verified
 }
 
 fn claims_from(alloc: Global, verified: Verified) -> Result<Claims, ApplyFault>
-    ensures { Gives (λ claims. claims) result (claimed_by (claims_of verified.payload)) }
+    ensures claims { IfOk result (λ claims. claimed_by (claims_of verified.payload) ≡ Ok claims) }
+    ensures passes { Passes result (fault_of (claimed_by (claims_of verified.payload))) }
 {
     let read = read_claims(alloc, verified.payload.as_slice());
     drop(verified);
@@ -76,7 +80,8 @@ fn source_from(
     claims: Claims,
     now: u64,
 ) -> Result<Source, ApplyFault>
-    ensures { Gives (λ source. source) result (source_of_claims provider.now claims now) }
+    ensures source { IfOk result (λ source. source_of_claims provider.now claims now ≡ Ok source) }
+    ensures passes { Passes result (fault_of (source_of_claims provider.now claims now)) }
 {
     match who_from(alloc, provider, &claims, now) {
         Ok(who) => Ok(source_by(who, claims)),
@@ -104,7 +109,8 @@ fn who_from(
     claims: &Claims,
     now: u64,
 ) -> Result<Who, ApplyFault>
-    ensures { Gives (λ who. who) result (who_of_claims provider.now claims.now now) }
+    ensures who { IfOk result (λ who. who_of_claims provider.now claims.now now ≡ Ok who) }
+    ensures passes { Passes result (fault_of (who_of_claims provider.now claims.now now)) }
 {
     admit(alloc, provider, claims, now)?;
     let subject = subject_of(alloc, claims)?;
@@ -112,7 +118,8 @@ fn who_from(
 }
 
 fn outside(alloc: Global, provider: &StartProvider, subject: Text) -> Result<Who, ApplyFault>
-    ensures { Gives (λ who. who) result (Ok (outside_of provider.now subject)) }
+    ensures who { IfOk result (λ who. who ≡ outside_of provider.now subject) }
+    ensures memory { IfErr result (λ fault. fault ≡ ApplyFault.Memory) }
 {
     match provider.pool.copy(alloc) {
         Ok(pool) => Ok(Who::Outside {
@@ -188,7 +195,8 @@ fn is_one_of(text: &str, one: &str, other: &str) -> bool
 
 // A copy of the claim `sub`.
 fn subject_of(alloc: Global, claims: &Claims) -> Result<Text, ApplyFault>
-    ensures { Gives (λ subject. subject) result (subject_by (subject_claim claims.now)) }
+    ensures subject { IfOk result (λ subject. subject_by (subject_claim claims.now) ≡ Ok subject) }
+    ensures passes { Passes result (fault_of (subject_by (subject_claim claims.now))) }
 {
     match value_at(&claims.tree, "sub").and_then(text_in) {
         None => Err(unlicensed(RuleCode::E19(MapFault::Subject))),
@@ -197,7 +205,8 @@ fn subject_of(alloc: Global, claims: &Claims) -> Result<Text, ApplyFault>
 }
 
 fn sized_subject(alloc: Global, subject: &str) -> Result<Text, ApplyFault>
-    ensures { Gives (λ subject. subject) result (subject_by (Some subject.now)) }
+    ensures subject { IfOk result (λ copy. subject_by (Some subject.now) ≡ Ok copy) }
+    ensures passes { Passes result (fault_of (subject_by (Some subject.now))) }
 {
     if subject.is_empty() {
         return Err(unlicensed(RuleCode::E19(MapFault::Subject)));

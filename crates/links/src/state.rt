@@ -38,7 +38,14 @@ impl Model for State {
     } };
 
     ghost invariant = { λ s. (vec_len s.links ≤ s.count) × AreHeld (map link_of_recorded s.links.items) s.links.items
-        × Reached (record { issuer = s.issuer; key = s.key; start = s.start; view = s.view.content; count = s.count; links = map link_of_recorded s.links.items }) };
+        × Reached (record {
+          issuer = s.issuer;
+          key = s.key;
+          start = s.start;
+          view = s.view.content;
+          count = s.count;
+          links = map link_of_recorded s.links.items;
+        }) };
 }
 
 /// The state of a configuration before the first entry: the provider's pool is there, enabled, and the scope word for all
@@ -131,7 +138,6 @@ impl State {
     /// How many entries are recorded.
     pub fn entry_count(&self) -> u32
         ensures count { result ≡ self.now.content.count }
-        ensures reached { Reached self.now.content }
     {
         self.count
     }
@@ -143,6 +149,15 @@ impl State {
     {
         let _count = self.count;
         self.links.len() as u32
+    }
+
+    /// A law: some lawful journal leaves this state, and its links are numbered below 2^32.
+    pub fn has_a_lawful_journal(&self)
+        ensures reached { Reached self.now.content }
+        ensures few { length self.now.content.links ≤ 2 ^ 32 }
+    {
+        let _count = self.count;
+        let _links = self.link_count();
     }
 
     /// Whether no entry more can be recorded: links are numbered below 2^32.

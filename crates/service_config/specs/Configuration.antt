@@ -20,9 +20,11 @@ use Rattle.service_config.specs.declared.config.ConfigError.TheVariants.{Form, M
 abbrev pub provider_name : StartProvider → Audience
 provider_name provider = record { pool = provider.pool; provider = provider.id }
 
+-- the most bytes of a configuration
 abbrev pub config_limit : ℕ
 config_limit = 65536
 
+-- a text of 1 to 256 bytes
 abbrev pub issuer_of : List ℕ → Option (List ℕ)
 issuer_of text = passing (has_size 1 256) text
 
@@ -30,12 +32,15 @@ issuer_of text = passing (has_size 1 256) text
 abbrev pub key_of : List ℕ → Option (List ℕ)
 key_of text = option_and_then (passing (has_size 32 128)) (result_ok (decode_of url_safe_no_pad text))
 
+-- 16 to 256 visible ASCII characters
 abbrev pub is_secret : List ℕ → Bool
 is_secret text = has_size 16 256 text && is_visible_text text
 
+-- the text where it is a secret
 abbrev pub secret_of : List ℕ → Option (List ℕ)
 secret_of text = passing is_secret text
 
+-- the provider that an object says, with each member of its form
 unfoldable pub start_of : Data → Option StartProvider
 start_of json = do
   project ← text_at (codes "project") json
@@ -52,9 +57,11 @@ abbrev pub start_under : Option Data → Option (Option StartProvider)
 start_under None = Some None
 start_under (Some json) = option_map (λ provider. Some provider) (start_of json)
 
+-- the provider under `start`
 abbrev pub start_at : Data → Option (Option StartProvider)
 start_at json = start_under (get (codes "start") json)
 
+-- the configuration that an object says, with each member of its form
 unfoldable pub config_of : Data → Option Config
 config_of json = do
   issuer ← option_and_then issuer_of (text_at (codes "issuer") json)

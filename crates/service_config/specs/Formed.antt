@@ -13,11 +13,13 @@ pub record IsFormedIssuer (issuer : List ℕ) : Type 0 where
   pub utf8 : IsUtf8 issuer
   pub size : has_size 1 256 issuer ≡ true
 
+-- each part of the provider is of its form; a key has 32 to 128 bytes by its type
 pub record IsFormedProvider (provider : StartProvider) : Type 0 where
   pub pool : is_pool_name provider.pool ≡ true
   pub id : is_id provider.id ≡ true
   pub issuer : IsFormedIssuer provider.issuer
 
+-- the provider is of its form, if there is one
 abbrev pub IsFormedStart : Option StartProvider → Type 0
 IsFormedStart None = ⊤
 IsFormedStart (Some provider) = IsFormedProvider provider

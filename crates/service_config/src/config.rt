@@ -18,7 +18,7 @@ pub struct Config {
     pub start: Option<StartProvider>,
 }
 
-/// A provider of outside tokens that is there from the start.
+/// A provider of subject tokens that is there from the start.
 #[derive(Debug, Drop)]
 pub struct StartProvider {
     pub pool: PoolName,

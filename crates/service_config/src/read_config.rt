@@ -79,7 +79,8 @@ fn assembled(
     key: Key,
     start: Option<StartProvider>,
 ) -> Result<Config, ConfigError>
-    ensures config { IfOk result (λ config. IsOkAnd texts (λ found. config ≡ record { issuer = found.issuer; key = key; admin = found.admin; gate = found.gate; start = start })) }
+    ensures config { IfOk result (λ config. IsOkAnd texts (λ found. config
+        ≡ record { issuer = found.issuer; key = key; admin = found.admin; gate = found.gate; start = start })) }
     ensures memory { IfErr result (λ fault. fault ≡ ConfigError.Memory) }
 {
     match texts {

@@ -9,7 +9,7 @@ pub record Rows : Type 0 where
   pub pools : List Pool
   pub spare : ℕ
 
--- whether the pool of that name is switched off, where it is there
+-- whether the pool of that name is disabled, where it is there
 abbrev pub disabled_at : PoolName → List Pool → Option Bool
 disabled_at name [] = None
 disabled_at name (pool ∷ pools) = if same_pool pool.name name then Some pool.disabled else disabled_at name pools

@@ -9,7 +9,7 @@ use Rattle.service_view.specs.declared.command.Command.{Command}
 use Rattle.service_view.specs.declared.pools.Pool.{Pool}
 use Rattle.service_view.specs.Pools.{disabled_at, put_pool}
 
--- The pools, the accounts with whether each is switched off, and the roles, scope words and policies.
+-- The pools, the accounts with whether each is disabled, and the roles, scope words and policies.
 pub record View : Type 0 where
   pub pools : List Pool
   pub accounts : List (List ℕ × Bool)
@@ -20,11 +20,11 @@ pub record Held : Type 0 where
   pub content : View
   pub spare : ℕ
 
--- the pool is there and not switched off
+-- the pool is there and not disabled
 abbrev pub pool_enabled : View → PoolName → Bool
 pool_enabled view pool = passes not (disabled_at pool view.pools)
 
--- the account is there and not switched off
+-- the account is there and not disabled
 abbrev pub account_enabled : View → List ℕ → Bool
 account_enabled view account = passes not (value_at account view.accounts)
 
@@ -32,11 +32,12 @@ account_enabled view account = passes not (value_at account view.accounts)
 abbrev pub cloud_platform : List ℕ
 cloud_platform = codes "https://www.googleapis.com/auth/cloud-platform"
 
+-- that one pool, enabled
 abbrev pub start_pools : Option PoolName → List Pool
 start_pools None = []
 start_pools (Some name) = record { name = name; disabled = false } ∷ []
 
--- before the first command: a scope word for all permissions, and a pool, switched on, if there is one
+-- before the first command: a scope word for all permissions, and a pool, enabled, if there is one
 abbrev pub start_view : Option PoolName → View
 start_view pool = record { pools = start_pools pool; accounts = []; lists = with_scope cloud_platform All no_lists }
 

@@ -7,12 +7,12 @@ use std::alloc::{AllocError, Global};
 /// What an administrator asks to put, in place of what stands under the name.
 #[derive(Debug, Drop)]
 pub enum Command {
-    /// A pool, and whether it is switched off.
+    /// A pool, and whether it is disabled.
     Pool {
         pool: PoolName,
         disabled: bool,
     },
-    /// A service account, and whether it is switched off.
+    /// A service account, and whether it is disabled.
     Account {
         account: Account,
         disabled: bool,

@@ -2,7 +2,7 @@ use iam_names::PoolName;
 use std::alloc::{AllocError, Global};
 use std::marker::Model;
 
-/// A pool, and whether it is switched off.
+/// A pool, and whether it is disabled.
 #[derive(Debug, Drop)]
 pub struct Pool {
     pub name: PoolName,
@@ -44,7 +44,7 @@ impl Pools {
         self.inner.len()
     }
 
-    /// Whether the pool is switched off, where it is there.
+    /// Whether the pool is disabled, where it is there.
     pub fn disabled(&self, name: &PoolName) -> Option<bool>
         ensures { result ≡ pools.disabled_at name.now self.now.pools }
     {

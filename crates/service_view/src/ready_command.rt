@@ -1,5 +1,5 @@
 use crate::pools::Pool;
-use allow_policy::{Row, ScopeSet};
+use allow_policy::{PolicyRow, ScopeSet};
 use base_types::Items;
 use iam_names::{Account, Permission, Resource, Role, ScopeWord};
 
@@ -21,6 +21,6 @@ pub enum Ready {
     },
     Policy {
         resource: Resource,
-        row: Row,
+        row: PolicyRow,
     },
 }

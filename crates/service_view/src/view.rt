@@ -38,7 +38,7 @@ impl View {
     ghost use Rattle.std.specs.Prelude.{◌≡◌, ◌≤◌, IfOk, OnOk, option_map};
     ghost use Rattle.service_view.specs.View as start;
 
-    /// Nothing but the scope word that is there from the start, and the pool, switched on, if there is one.
+    /// Nothing but the scope word that is there from the start, and the pool, enabled, if there is one.
     pub fn start(alloc: Global, pool: Option<&PoolName>) -> Result<Self, AllocError>
         ensures { IfOk result (λ v. v.content ≡ start.start_view (option_map (λ name. name.now) pool.entry)) }
     {
@@ -49,7 +49,7 @@ impl View {
         })
     }
 
-    /// Whether the pool is there and not switched off.
+    /// Whether the pool is there and not disabled.
     pub fn is_pool_enabled(&self, pool: &PoolName) -> bool
         ensures { result ≡ start.pool_enabled self.now.content pool.now }
     {
@@ -59,7 +59,7 @@ impl View {
         }
     }
 
-    /// Whether the service account is there and not switched off.
+    /// Whether the service account is there and not disabled.
     pub fn is_account_enabled(&self, account: &Account) -> bool
         ensures { result ≡ start.account_enabled self.now.content account.now }
     {

@@ -10,6 +10,7 @@ use Rattle.allow_policy.specs.declared.binding.Binding.{Binding}
 use Rattle.json_text.specs.Arrays.{short_list}
 use Rattle.json_text.specs.Members.{name_at}
 
+-- a text that names a member
 unfoldable pub binding_member : Data → Option Member
 binding_member d = option_and_then member_of (as_str d)
 
@@ -17,6 +18,7 @@ binding_member d = option_and_then member_of (as_str d)
 abbrev pub members_of : Data → Option (List Member)
 members_of d = short_list binding_member 64 d
 
+-- the members under `members`
 abbrev pub members_at : Data → Option (List Member)
 members_at d = option_and_then members_of (get (codes "members") d)
 
@@ -31,5 +33,6 @@ binding_of d = do
 abbrev pub bindings_of : Data → Option (List Binding)
 bindings_of d = short_list binding_of 64 d
 
+-- the bindings under `bindings`
 abbrev pub bindings_at : Data → Option (List Binding)
 bindings_at d = option_and_then bindings_of (get (codes "bindings") d)

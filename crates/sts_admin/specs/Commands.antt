@@ -13,6 +13,7 @@ use Rattle.sts_admin.specs.declared.command.CommandFault.{CommandFault}
 use Rattle.sts_admin.specs.declared.command.CommandMember.{CommandMember}
 use Rattle.sts_admin.specs.declared.command.CommandFault.TheVariants.{Kind, Field, Memory}
 
+-- a pool of a project, and whether it is disabled
 unfoldable pub pool_command : Data → Result Command CommandFault
 pool_command d = do
   project ← needed (Field CommandMember.Project) (name_at is_project (codes "project") d)
@@ -20,30 +21,35 @@ pool_command d = do
   disabled ← needed (Field CommandMember.Disabled) (disabled_at d)
   Ok (Command.Pool (record { project = project; pool = pool }) disabled)
 
+-- a service account, and whether it is disabled
 unfoldable pub account_command : Data → Result Command CommandFault
 account_command d = do
   account ← needed (Field CommandMember.Email) (name_at is_account (codes "email") d)
   disabled ← needed (Field CommandMember.Disabled) (disabled_at d)
   Ok (Command.Account account disabled)
 
+-- a role and its permissions
 unfoldable pub role_command : Data → Result Command CommandFault
 role_command d = do
   role ← needed (Field CommandMember.Role) (name_at is_role (codes "role") d)
   permissions ← needed (Field CommandMember.Permissions) (permissions_at d)
   Ok (Command.Role role permissions)
 
+-- a scope word and the permissions that it stands for
 unfoldable pub scope_command : Data → Result Command CommandFault
 scope_command d = do
   word ← needed (Field CommandMember.Scope) (name_at is_scope_word (codes "scope") d)
   permissions ← needed (Field CommandMember.Permissions) (scope_set_at d)
   Ok (Command.Scope word permissions)
 
+-- a resource and the bindings of its allow policy
 unfoldable pub policy_command : Data → Result Command CommandFault
 policy_command d = do
   resource ← needed (Field CommandMember.Resource) (name_at is_resource (codes "resource") d)
   bindings ← needed (Field CommandMember.Bindings) (bindings_at d)
   Ok (Command.Policy resource bindings)
 
+-- the command of a kind, where there is one of that name
 abbrev pub command_of_kind : List ℕ → Data → Result Command CommandFault
 command_of_kind kind d =
     if bytes_eq kind (codes "pool") then pool_command d
@@ -53,6 +59,7 @@ command_of_kind kind d =
     else (if bytes_eq kind (codes "policy") then policy_command d
     else Err Kind))))
 
+-- an object without a kind is no command
 abbrev pub command_under : Option (List ℕ) → Data → Result Command CommandFault
 command_under None d = Err Kind
 command_under (Some kind) d = command_of_kind kind d

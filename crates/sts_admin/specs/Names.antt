@@ -3,6 +3,7 @@ use Rattle.std.specs.Prelude.{ℕ, List, codes}
 use Rattle.sts_admin.specs.declared.command.CommandMember.{CommandMember}
 use Rattle.sts_admin.specs.declared.command.CommandMember.TheVariants.{Project, Pool, Disabled, Email, Role, Permissions, Scope, Resource, Bindings}
 
+-- the name under which the member stands in the object
 abbrev pub member_name : CommandMember → List ℕ
 member_name Project = codes "project"
 member_name Pool = codes "pool"

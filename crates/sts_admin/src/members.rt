@@ -37,7 +37,7 @@ pub fn name_at<F: Form>(
     }
 }
 
-/// Whether the object says that it is switched off.
+/// Whether the object says that it is disabled.
 pub(crate) fn disabled_at(json: &Value) -> Option<bool>
     ensures { result ≡ members.disabled_at (view json.now) }
 {

@@ -32,13 +32,13 @@ use Rattle.links.specs.Entries.{IsEntry}
 use Rattle.links.specs.Facts.{exp_of, pools_of, accounts_of, scopes_of}
 use Rattle.links.specs.Issued.{issued_link}
 use Rattle.links.specs.Licence.{first_unlicensed, Lawful}
-use Rattle.links.specs.State.{Content, chain, content_of, start_of, token_text}
+use Rattle.links.specs.State.{Content, chain, content_of, start_of, state_after, token_text}
 use Rattle.links.proofs.LinkLaws.{issued_for}
 use Rattle.links.proofs.Replays.{lawful-last, state_after-append}
 use Rattle.sts_core.specs.declared.form.Parameter.{Parameter}
 use Rattle.sts_core.specs.Asked.{asked_entry, asks_for, entry_of}
 use Rattle.sts_core.specs.Forms.{form_of, once}
-use Rattle.sts_core.specs.Machine.{administration, behind, command_in, commanded, commanded_by, exchange, exchanged, is_bearer, no_entry, object_of, ruled, step, step_of, with_entry}
+use Rattle.sts_core.specs.Machine.{administration, command_in, commanded, commanded_by, exchange, exchanged, is_bearer, no_entry, object_of, ruled, step, step_of, with_entry}
 use Rattle.sts_core.specs.Replies.{not_built, u1}
 use Rattle.sts_core.specs.Unbuilt.{is_unbuilt}
 use Rattle.sts_core.specs.Check.{check_decision, chain_or_carried, issued_chain, first_denial, link_decision}
@@ -199,6 +199,6 @@ step_lawful config journal request now low lawful = route_lawful config journal 
 
 -- ---- the state that a step leaves
 
-pub behind_is : (config : Config) (journal : List Entry) (added : Option Entry) → behind (content_of config journal) added ≡ content_of config (with_entry journal added)
-behind_is config journal None = refl
-behind_is config journal (Some e) = sym (state_after-append (start_of config) journal (e ∷ []))
+pub state_left : (config : Config) (journal : List Entry) (added : Option Entry) → state_after (content_of config journal) (with_entry [] added) ≡ content_of config (with_entry journal added)
+state_left config journal None = refl
+state_left config journal (Some e) = sym (state_after-append (start_of config) journal (e ∷ []))

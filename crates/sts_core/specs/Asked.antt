@@ -11,6 +11,7 @@ use Rattle.service_config.specs.Configuration.{provider_name}
 use Rattle.sts_core.specs.Forms.{is_all_text, is_absent, once}
 use Rattle.sts_core.specs.declared.form.Parameter.{Parameter}
 
+-- the value is there and is this one
 abbrev pub is_value : List ℕ → Option (List ℕ) → Bool
 is_value value None = false
 is_value value (Some found) = bytes_eq found value
@@ -19,9 +20,11 @@ is_value value (Some found) = bytes_eq found value
 abbrev pub is_once : List ℕ → List ℕ → List Parameter → Bool
 is_once name value form = is_value value (once name form)
 
+-- the grant of a token exchange (RFC 8693, section 2.1)
 abbrev pub grant_type : List ℕ
 grant_type = codes "urn:ietf:params:oauth:grant-type:token-exchange"
 
+-- the type of a subject token that is a JWT (RFC 8693, section 3)
 abbrev pub jwt_type : List ℕ
 jwt_type = codes "urn:ietf:params:oauth:token-type:jwt"
 
@@ -29,7 +32,7 @@ jwt_type = codes "urn:ietf:params:oauth:token-type:jwt"
 abbrev pub unwanted : List (List ℕ)
 unwanted = codes "requested_token_type" ∷ codes "actor_token" ∷ codes "actor_token_type" ∷ codes "resource" ∷ codes "scope" ∷ codes "options" ∷ []
 
--- an outside token is to become an access token, and no more is asked for
+-- a subject token is to become an access token, and no more is asked for
 abbrev pub is_plain_exchange : List Parameter → Bool
 is_plain_exchange form = is_all_text form && (is_once (codes "grant_type") grant_type form
     && (is_once (codes "subject_token_type") jwt_type form && list_all (is_absent form) unwanted))
@@ -38,10 +41,11 @@ is_plain_exchange form = is_all_text form && (is_once (codes "grant_type") grant
 abbrev pub asks_for : StartProvider → List Parameter → Bool
 asks_for provider form = is_plain_exchange form && is_once (codes "audience") (audience_text (provider_name provider)) form
 
+-- the exchange of the token under the provider, for all permissions, at the moment
 abbrev pub entry_of : StartProvider → ℕ → List ℕ → Entry
-entry_of provider at token = Federated (record { provider = provider_name provider; token = token; scope = cloud_platform ∷ []; at = at })
+entry_of provider now token = Federated (record { provider = provider_name provider; token = token; scope = cloud_platform ∷ []; at = now })
 
 -- the entry that such an exchange would record
 unfoldable pub asked_entry : Option StartProvider → List Parameter → ℕ → Option Entry
-asked_entry None form at = None
-asked_entry (Some provider) form at = if asks_for provider form then option_map (entry_of provider at) (once (codes "subject_token") form) else None
+asked_entry None form now = None
+asked_entry (Some provider) form now = if asks_for provider form then option_map (entry_of provider now) (once (codes "subject_token") form) else None

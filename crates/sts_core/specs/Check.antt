@@ -30,6 +30,7 @@ link_decision view chain permission resource now = if admits view chain permissi
 abbrev pub issued_chain : Content → List ℕ → Option Chain
 issued_chain c text = option_and_then (chain c) (issued_link c text)
 
+-- the chain decides where there is one, and else what the text carries
 abbrev pub chain_or_carried : Content → List ℕ → List ℕ → List ℕ → ℕ → Option Chain → Decision
 chain_or_carried c text permission resource now None = carried_decision c.view c.key c.issuer text permission resource now
 chain_or_carried c text permission resource now (Some found) = link_decision c.view found permission resource now

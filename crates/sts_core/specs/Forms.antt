@@ -23,6 +23,7 @@ holds_replacement short = false
 abbrev pub is_text : Parameter → Bool
 is_text parameter = not (holds_replacement parameter.name) && not (holds_replacement parameter.value)
 
+-- each name and each value is UTF-8
 abbrev pub is_all_text : List Parameter → Bool
 is_all_text form = list_all is_text form
 
@@ -35,6 +36,7 @@ abbrev pub values : List ℕ → List Parameter → List (List ℕ)
 values name [] = []
 values name (parameter ∷ form) = if has_value name parameter then parameter.value ∷ values name form else values name form
 
+-- the value of a list that has exactly one
 abbrev pub only : List (List ℕ) → Option (List ℕ)
 only [] = None
 only (value ∷ []) = Some value
@@ -44,9 +46,11 @@ only (value ∷ other ∷ more) = None
 abbrev pub once : List ℕ → List Parameter → Option (List ℕ)
 once name form = only (values name form)
 
+-- the list is empty
 abbrev pub has_none : List (List ℕ) → Bool
 has_none [] = true
 has_none (value ∷ more) = false
 
+-- the parameter has no value
 abbrev pub is_absent : List Parameter → List ℕ → Bool
 is_absent form name = has_none (values name form)

@@ -1,5 +1,6 @@
 -- The machine: what the service replies to a request, and which entry it adds to its journal.
-use Rattle.std.specs.Prelude.{ℕ, List, [], ◌∷◌, ◌++◌, length, Bool, false, not, Option, None, Some, option_and_then, is_some, codes, Result, Ok, Err, if◌then◌else◌}
+use Rattle.std.specs.Prelude.{ℕ, List, [], ◌∷◌, ◌++◌, Bool, false, not, if◌then◌else◌}
+use Rattle.std.specs.Prelude.{Option, None, Some, option_and_then, is_some, codes, Result, Ok, Err}
 use Rattle.std.specs.Str.{bytes_eq}
 use Rattle.base_types.specs.Rules.{fails_if, first_failing}
 use Rattle.wif_base.specs.declared.route.Route.{Route}
@@ -25,17 +26,19 @@ use Rattle.links.specs.Chain.{Chain}
 use Rattle.links.specs.Facts.{facts_of}
 use Rattle.links.specs.Licence.{first_unlicensed, prepared_of}
 use Rattle.links.specs.Authority.{live}
-use Rattle.links.specs.State.{Content, after, content_of}
+use Rattle.links.specs.State.{Content, content_of}
 use Rattle.sts_core.specs.Asked.{asked_entry}
 use Rattle.sts_core.specs.Forms.{form_of, is_all_text, once}
 use Rattle.sts_core.specs.Refusals.{refusal_of, command_refusal}
 use Rattle.sts_core.specs.Replies.{u1, n2, a1, bad_argument, decision_reply, not_built, inactive, issued, entered}
 use Rattle.sts_core.specs.Unbuilt.{is_unbuilt}
 
+-- the reply to a request, and the entry that it adds to the journal, if any
 pub record Answer : Type 0 where
   pub reply : Reply
   pub entry : Option Entry
 
+-- a reply that records nothing
 abbrev pub no_entry : Reply → Answer
 no_entry reply = record { reply = reply; entry = None }
 
@@ -56,8 +59,9 @@ abbrev pub told_token : Content → ℕ → Option (List ℕ) → Reply
 told_token c now None = n2
 told_token c now (Some token) = told c now (issued_chain c token)
 
-unfoldable pub introspection : List ℕ → Content → Request → ℕ → Reply
-introspection gate c request now = first_failing (
+-- the reply to an introspection: the bearer comes first, then the form, then the token
+unfoldable pub introspection_reply : List ℕ → Content → Request → ℕ → Reply
+introspection_reply gate c request now = first_failing (
     fails_if (not (is_bearer gate request.bearer)) u1 ∷
     fails_if (not (is_all_text (form_of request.body))) not_built ∷ []
     ) (told_token c now (once (codes "token") (form_of request.body)))
@@ -69,6 +73,7 @@ abbrev pub ruled : Content → Entry → Option RuleCode → Answer
 ruled c entry (Some rule) = no_entry (refusal_of rule)
 ruled c entry None = record { reply = issued (prepared_of c entry); entry = Some entry }
 
+-- a form that asks for no exchange of this kind is refused, and one that does is ruled on
 abbrev pub exchanged : Content → Option Entry → Answer
 exchanged c None = no_entry not_built
 exchanged c (Some entry) = ruled c entry (first_unlicensed c entry)
@@ -84,10 +89,12 @@ abbrev pub commanded_by : Content → Command → Option RuleCode → Answer
 commanded_by c command (Some rule) = no_entry (refusal_of rule)
 commanded_by c command None = record { reply = entered (c.count); entry = Some (Put command) }
 
+-- what is no command is refused, and a command is ruled on
 abbrev pub commanded : Content → Result Command CommandFault → Answer
 commanded c (Err fault) = no_entry (command_refusal fault)
 commanded c (Ok command) = commanded_by c command (first_unlicensed c (Put command))
 
+-- the value is a JSON object
 abbrev pub is_object : Data → Bool
 is_object d = is_some (as_object d)
 
@@ -95,6 +102,7 @@ is_object d = is_some (as_object d)
 abbrev pub object_of : List ℕ → Option Data
 object_of body = option_and_then (passing is_object) (document body)
 
+-- a body that is no object is refused, and so is a command of a kind that is not built yet
 abbrev pub command_in : Content → Option Data → Answer
 command_in c None = no_entry a1
 command_in c (Some d) = if is_unbuilt d then no_entry not_built else commanded c (command_of d)
@@ -105,15 +113,18 @@ administration secret c request = if is_bearer secret request.bearer then comman
 
 -- ---- checks
 
+-- a check names a token, a permission and a resource, each of its form, and is refused at the first that it lacks
 abbrev pub check_asked : Content → ℕ → Option (List ℕ) → Option (List ℕ) → Option (List ℕ) → Reply
 check_asked c now None permission resource = bad_argument (codes "C2")
 check_asked c now (Some token) None resource = bad_argument (codes "C3")
 check_asked c now (Some token) (Some permission) None = bad_argument (codes "C4")
 check_asked c now (Some token) (Some permission) (Some resource) = decision_reply (check_decision c token permission resource now)
 
+-- a body that is no object is refused, and what an object asks for is decided
 abbrev pub check_in : Content → ℕ → Option Data → Reply
 check_in c now None = bad_argument (codes "C1")
-check_in c now (Some d) = check_asked c now (text_at (codes "token") d) (name_at is_permission (codes "permission") d) (name_at is_resource (codes "resource") d)
+check_in c now (Some d) =
+    check_asked c now (text_at (codes "token") d) (name_at is_permission (codes "permission") d) (name_at is_resource (codes "resource") d)
 
 -- the permission on the resource is admitted or denied, where the bearer is the secret
 unfoldable pub checking : List ℕ → Content → Request → ℕ → Reply
@@ -125,10 +136,11 @@ checking gate c request now = if is_bearer gate request.bearer then check_in c n
 abbrev pub step_of : Route → Config → Content → Request → ℕ → Answer
 step_of Token config c request now = exchange c request now
 step_of (Generate account) config c request now = no_entry not_built
-step_of Introspect config c request now = no_entry (introspection config.gate c request now)
+step_of Introspect config c request now = no_entry (introspection_reply config.gate c request now)
 step_of Check config c request now = no_entry (checking config.gate c request now)
 step_of Admin config c request now = administration config.admin c request
 
+-- the machine's answer to a request over a journal
 abbrev pub step : Config → List Entry → Request → ℕ → Answer
 step config journal request now = step_of request.route config (content_of config journal) request now
 
@@ -136,8 +148,3 @@ step config journal request now = step_of request.route config (content_of confi
 abbrev pub with_entry : List Entry → Option Entry → List Entry
 with_entry journal None = journal
 with_entry journal (Some entry) = journal ++ entry ∷ []
-
--- the state behind an answer
-abbrev pub behind : Content → Option Entry → Content
-behind c None = c
-behind c (Some entry) = after c entry

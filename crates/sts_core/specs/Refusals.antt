@@ -15,6 +15,7 @@ use Rattle.sts_admin.specs.declared.command.CommandFault.{CommandFault}
 use Rattle.sts_admin.specs.declared.command.CommandFault.TheVariants.{Kind, Field, Memory}
 use Rattle.sts_core.specs.Replies.{refusal, bad_argument}
 
+-- the detail of a fault of a signature
 abbrev pub jws_text : JwsFault → List ℕ
 jws_text jws.Parts = codes "Parts"
 jws_text (jws.Base64 part) = codes "Base64 " ++ decimal part
@@ -24,6 +25,7 @@ jws_text jws.Crit = codes "Crit"
 jws_text jws.Mac = codes "Mac"
 jws_text jws.Memory = codes "Memory"
 
+-- the detail of a fault of claims
 abbrev pub claim_text : ClaimFault → List ℕ
 claim_text claim.Json = codes "Json"
 claim_text claim.NotObject = codes "NotObject"
@@ -35,6 +37,7 @@ claim_text claim.Iat = codes "Iat"
 claim_text claim.MayAct = codes "MayAct"
 claim_text claim.Memory = codes "Memory"
 
+-- the detail of a fault in what the claims give
 abbrev pub map_text : MapFault → List ℕ
 map_text map.Issuer = codes "Issuer"
 map_text map.Audience = codes "Audience"
@@ -69,6 +72,7 @@ word_of (E18 fault) = codes "invalid_request"
 word_of (E19 fault) = codes "invalid_request"
 word_of E25 = codes "invalid_request"
 
+-- the reply to what a rule forbids: its word, its code and its detail
 abbrev pub refusal_of : RuleCode → Reply
 refusal_of rule = refusal 400 (word_of rule) (rule_text rule)
 
@@ -80,5 +84,6 @@ fault_text (Field member) = codes "A3 " ++ member_name member
 fault_text Kind = codes "A2"
 fault_text Memory = codes "A2"
 
+-- the reply to a body that is no command
 abbrev pub command_refusal : CommandFault → Reply
 command_refusal fault = bad_argument (fault_text fault)

@@ -27,6 +27,7 @@ u1 = refusal 401 (codes "invalid_token") (codes "U1")
 abbrev pub n2 : Reply
 n2 = refusal 400 (codes "invalid_request") (codes "N2")
 
+-- the body does not say what the path asks for
 abbrev pub bad_argument : List ℕ → Reply
 bad_argument text = refusal 400 (codes "invalid_argument") text
 
@@ -42,14 +43,17 @@ not_built = refusal 501 (codes "not_built") (codes "Z1")
 abbrev pub not_found : Reply
 not_found = refusal 404 (codes "not_found") (codes "H4")
 
+-- a token that is not active (RFC 7662, section 2.2)
 abbrev pub inactive : Reply
 inactive = record { status = 200; body = codes "{\"active\":false}" }
 
 -- ---- a token that is issued (RFC 8693, section 2.2.1)
 
+-- the type of the token that is issued (RFC 8693, section 3)
 abbrev pub access_token_type : List ℕ
 access_token_type = codes "urn:ietf:params:oauth:token-type:access_token"
 
+-- the members of the reply to an exchange (RFC 8693, section 2.2.1)
 unfoldable pub issued_data : List ℕ → ℕ → List ℕ → Data
 issued_data token seconds scope = object (
     member (codes "access_token") (string token) (
@@ -62,6 +66,7 @@ issued_data token seconds scope = object (
 abbrev pub token_reply : List ℕ → ℕ → List (List ℕ) → Reply
 token_reply token seconds words = record { status = 200; body = compact_text (issued_data token seconds (words_text words)) }
 
+-- the token lasts as long as its link, and its scope is the last list of words
 abbrev pub issued_by : List ℕ → Option RecordedLink → Reply
 issued_by token None = token_reply token 0 []
 issued_by token (Some link) = token_reply token (link.facts.exp - link.facts.iat) (last_words link.facts.scopes)
@@ -72,11 +77,13 @@ issued prepared = issued_by (unwrap_or prepared.token []) prepared.recorded
 
 -- ---- a command that is recorded: its entry's number, counted from 0
 
+-- the number of the command's entry
 abbrev pub entered : ℕ → Reply
 entered n = record { status = 200; body = codes "{\"entry\":" ++ (decimal n ++ codes "}") }
 
 -- ---- a decision
 
+-- the code of a rule of the gate
 abbrev pub rule_code : GateRule → List ℕ
 rule_code gate.G1 = codes "G1"
 rule_code gate.G2 = codes "G2"
@@ -98,9 +105,11 @@ place_member gate.G3 place = []
 place_member gate.G4 place = []
 place_member gate.G9 place = []
 
+-- `{"allowed":false,"reason":CODE}`, with the place where the rule is of a list
 abbrev pub denial_text : GateRule → ℕ → List ℕ
 denial_text rule place = codes "{\"allowed\":false," ++ (place_member rule place ++ (codes "\"reason\":\"" ++ (rule_code rule ++ codes "\"}")))
 
+-- `{"allowed":true}`, or the denial
 abbrev pub decision_reply : Decision → Reply
 decision_reply Admit = record { status = 200; body = codes "{\"allowed\":true}" }
 decision_reply (Deny rule place) = record { status = 200; body = denial_text rule place }

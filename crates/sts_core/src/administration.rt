@@ -1,7 +1,8 @@
-ghost use Rattle.std.specs.Prelude.{◌≡◌, ◌<◌, ◌-◌, ◌^◌, IfOk, OnOk, OnErr, Ok, Some};
+ghost use Rattle.std.specs.Prelude.{◌≡◌, ◌<◌, ◌-◌, ◌^◌, IfOk, OnOk, OnErr, Ok, Some, []};
 ghost use Rattle.serde_json.specs.View.{view};
+ghost use Rattle.links.specs.State.{state_after};
 ghost use Rattle.sts_admin.specs.Commands.{command_of};
-ghost use Rattle.sts_core.specs.Machine.{administration, command_in, commanded, behind};
+ghost use Rattle.sts_core.specs.Machine.{administration, command_in, commanded, with_entry};
 
 use crate::Stop;
 use crate::body::read_object;
@@ -27,7 +28,8 @@ pub(crate) fn administer(
 ) -> Result<Reply, Stop>
     requires room { state.old.content.count < 2 ^ 32 - 1 }
     ensures reply { IfOk result (λ reply. reply ≡ (administration secret.now state.old.content request.now).reply) }
-    ensures content { OnOk result (state.new.content ≡ behind state.old.content (administration secret.now state.old.content request.now).entry) }
+    ensures content { OnOk result (state.new.content ≡ state_after state.old.content
+        (with_entry [] (administration secret.now state.old.content request.now).entry)) }
     ensures refused { OnErr result (state.new.content ≡ state.old.content) }
 {
     if !is_bearer(secret, &request.bearer) {
@@ -43,7 +45,8 @@ pub(crate) fn administer(
 fn obey(alloc: Global, state: &mut State, json: &Value) -> Result<Reply, Stop>
     requires room { state.old.content.count < 2 ^ 32 - 1 }
     ensures reply { IfOk result (λ reply. reply ≡ (command_in state.old.content (Some (view json.now))).reply) }
-    ensures content { OnOk result (state.new.content ≡ behind state.old.content (command_in state.old.content (Some (view json.now))).entry) }
+    ensures content { OnOk result (state.new.content ≡ state_after state.old.content
+        (with_entry [] (command_in state.old.content (Some (view json.now))).entry)) }
     ensures refused { OnErr result (state.new.content ≡ state.old.content) }
 {
     if is_unbuilt(json) {
@@ -60,7 +63,7 @@ fn obey(alloc: Global, state: &mut State, json: &Value) -> Result<Reply, Stop>
 fn enter(alloc: Global, state: &mut State, command: Command) -> Result<Reply, Stop>
     requires room { state.old.content.count < 2 ^ 32 - 1 }
     ensures reply { IfOk result (λ reply. reply ≡ (commanded state.old.content (Ok command)).reply) }
-    ensures content { OnOk result (state.new.content ≡ behind state.old.content (commanded state.old.content (Ok command)).entry) }
+    ensures content { OnOk result (state.new.content ≡ state_after state.old.content (with_entry [] (commanded state.old.content (Ok command)).entry)) }
     ensures refused { OnErr result (state.new.content ≡ state.old.content) }
 {
     let number = state.entry_count();

@@ -64,8 +64,7 @@ fn decide_token(
 ) -> Result<Decision, AllocError>
     ensures { IfOk result (λ decision. decision ≡ check_decision state.now.content token.now permission.now resource.now now) }
 {
-    // Their contracts say what holds of every state.
-    let (_reached, _few) = (state.entry_count(), state.link_count());
+    state.has_a_lawful_journal();
     let issuer = state.issuer();
     decide(
         alloc,

@@ -1,9 +1,10 @@
-ghost use Rattle.std.specs.Prelude.{◌≡◌, ◌≤◌, ◌<◌, ◌-◌, ◌^◌, IfOk, IfSome, OnOk, OnErr, Some};
+ghost use Rattle.std.specs.Prelude.{◌≡◌, ◌≤◌, ◌<◌, ◌-◌, ◌^◌, IfOk, IfSome, OnOk, OnErr, Some, []};
 ghost use Rattle.links.specs.Entries.{IsEntry};
+ghost use Rattle.links.specs.State.{state_after};
 ghost use Rattle.sts_core.specs.Asked.{asked_entry, asks_for, is_plain_exchange, is_once as once_is, unwanted};
 ghost use Rattle.std.specs.List.{list_all};
 ghost use Rattle.sts_core.specs.Forms.{is_absent as absent};
-ghost use Rattle.sts_core.specs.Machine.{behind, exchange as exchange_of, exchanged};
+ghost use Rattle.sts_core.specs.Machine.{exchange as exchange_of, exchanged, with_entry};
 
 use crate::Stop;
 use crate::form::{Parameter, is_absent, is_all_text, once, read_form};
@@ -19,7 +20,7 @@ const GRANT_TYPE: &str = "urn:ietf:params:oauth:grant-type:token-exchange";
 
 const JWT_TYPE: &str = "urn:ietf:params:oauth:token-type:jwt";
 
-/// Answers an exchange of an outside token for an access token (RFC 8693).
+/// Answers an exchange of a subject token for an access token (RFC 8693).
 pub(crate) fn exchange(
     alloc: Global,
     state: &mut State,
@@ -29,7 +30,7 @@ pub(crate) fn exchange(
     requires moment { now ≤ 200_000_000_000 }
     requires room { state.old.content.count < 2 ^ 32 - 1 }
     ensures reply { IfOk result (λ reply. reply ≡ (exchange_of state.old.content request.now now).reply) }
-    ensures content { OnOk result (state.new.content ≡ behind state.old.content (exchange_of state.old.content request.now now).entry) }
+    ensures content { OnOk result (state.new.content ≡ state_after state.old.content (with_entry [] (exchange_of state.old.content request.now now).entry)) }
     ensures refused { OnErr result (state.new.content ≡ state.old.content) }
 {
     let form = read_form(alloc, request.body.as_slice())?;
@@ -44,7 +45,7 @@ fn issue(alloc: Global, state: &mut State, entry: Entry) -> Result<Reply, Stop>
     requires form { IsEntry entry }
     requires room { state.old.content.count < 2 ^ 32 - 1 }
     ensures reply { IfOk result (λ reply. reply ≡ (exchanged state.old.content (Some entry)).reply) }
-    ensures content { OnOk result (state.new.content ≡ behind state.old.content (exchanged state.old.content (Some entry)).entry) }
+    ensures content { OnOk result (state.new.content ≡ state_after state.old.content (with_entry [] (exchanged state.old.content (Some entry)).entry)) }
     ensures refused { OnErr result (state.new.content ≡ state.old.content) }
 {
     match prepare(alloc, state, entry) {

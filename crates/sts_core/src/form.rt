@@ -1,5 +1,5 @@
 ghost use Rattle.std.specs.Prelude.{◌≡◌, IfOk, option_map};
-ghost use Rattle.sts_core.specs.Forms.{form_of, is_all_text as all_text, holds_replacement as holds, is_text as text_alone, has_value as has_some, once as once_in, is_absent as absent_from};
+ghost use Rattle.sts_core.specs.Forms as forms;
 
 use base_types::{Items, Text};
 use std::alloc::{AllocError, Global};
@@ -13,7 +13,7 @@ pub struct Parameter {
 
 /// The parameters of a form (application/x-www-form-urlencoded), in order.
 pub(crate) fn read_form(alloc: Global, body: &[u8]) -> Result<Items<Parameter>, AllocError>
-    ensures { IfOk result (λ form. form ≡ form_of body.now) }
+    ensures { IfOk result (λ form. form ≡ forms.form_of body.now) }
 {
     let mut form = Items::new(alloc);
     for pair in form_urlencoded::parse(alloc, body) {
@@ -34,13 +34,13 @@ fn decoded(alloc: Global, name: &str, value: &str) -> Result<Parameter, AllocErr
 
 /// Whether each name and each value was UTF-8.
 pub(crate) fn is_all_text(form: &[Parameter]) -> bool
-    ensures { result ≡ all_text form.now }
+    ensures { result ≡ forms.is_all_text form.now }
 {
     form.iter().all(|parameter| is_text(parameter))
 }
 
 fn is_text(parameter: &Parameter) -> bool
-    ensures { result ≡ text_alone parameter.now }
+    ensures { result ≡ forms.is_text parameter.now }
 {
     let name = !holds_replacement(parameter.name.as_str().as_bytes());
     let value = !holds_replacement(parameter.value.as_str().as_bytes());
@@ -49,7 +49,7 @@ fn is_text(parameter: &Parameter) -> bool
 
 /// The value of a parameter that has exactly one.
 pub(crate) fn once<'a>(form: &'a [Parameter], name: &str) -> Option<&'a str>
-    ensures { option_map (λ value. value.now) result ≡ once_in name.now form.now }
+    ensures { option_map (λ value. value.now) result ≡ forms.once name.now form.now }
 {
     let mut found: Option<&'a str> = None;
     for parameter in form {
@@ -64,7 +64,7 @@ pub(crate) fn once<'a>(form: &'a [Parameter], name: &str) -> Option<&'a str>
 }
 
 fn has_value(parameter: &Parameter, name: &str) -> bool
-    ensures { result ≡ has_some name.now parameter.now }
+    ensures { result ≡ forms.has_value name.now parameter.now }
 {
     let named = parameter.name.as_str() == name;
     let there = parameter.value.as_str().len() > 0;
@@ -73,7 +73,7 @@ fn has_value(parameter: &Parameter, name: &str) -> bool
 
 /// Whether a parameter has no value.
 pub(crate) fn is_absent(form: &[Parameter], name: &str) -> bool
-    ensures { result ≡ absent_from form.now name.now }
+    ensures { result ≡ forms.is_absent form.now name.now }
 {
     for parameter in form {
         if has_value(parameter, name) {
@@ -85,7 +85,7 @@ pub(crate) fn is_absent(form: &[Parameter], name: &str) -> bool
 
 // Whether U+FFFD is there, which stands for bytes that are no UTF-8.
 fn holds_replacement(text: &[u8]) -> bool
-    ensures { result ≡ holds text.now }
+    ensures { result ≡ forms.holds_replacement text.now }
 {
     let mut rest = text;
     'bytes: while let [a, after @ ..] = rest {

@@ -1,7 +1,7 @@
 ghost use Rattle.std.specs.Prelude.{◌≡◌, ◌<◌, IfOk, length};
 ghost use Rattle.links.specs.State.{chain};
 ghost use Rattle.sts_core.specs.Check.{issued_chain};
-ghost use Rattle.sts_core.specs.Machine.{introspection, is_bearer as bearer_is, told};
+ghost use Rattle.sts_core.specs.Machine.{introspection_reply, is_bearer as bearer_is, told};
 
 use crate::form::{is_all_text, once, read_form};
 use crate::reply::{inactive, json_reply, no_bearer, no_token, not_built};
@@ -12,7 +12,7 @@ use std::alloc::{AllocError, Global};
 use wif_base::{Reply, Request};
 
 /// Answers an introspection (RFC 7662).
-#[tactic(auto, unfolding(crate::specs::Machine::introspection))]
+#[tactic(auto, unfolding(crate::specs::Machine::introspection_reply))]
 pub(crate) fn introspect(
     alloc: Global,
     gate: &Text,

@@ -1,5 +1,5 @@
 ghost use Rattle.std.specs.Prelude.{◌≡◌, ◌++◌, IfOk};
-ghost use Rattle.sts_core.specs.Refusals.{jws_text, claim_text, map_text, rule_text, word_of, refusal_of as refusal, fault_text as command_text, command_refusal};
+ghost use Rattle.sts_core.specs.Refusals as refusals;
 
 use crate::reply::{bad_argument, refused};
 use base_types::Text;
@@ -12,14 +12,14 @@ use wif_claims::ClaimFault;
 
 /// The reply to what a rule forbids.
 pub(crate) fn refusal_of(alloc: Global, rule: &RuleCode) -> Result<Reply, AllocError>
-    ensures { IfOk result (λ reply. reply ≡ refusal rule.now) }
+    ensures { IfOk result (λ reply. reply ≡ refusals.refusal_of rule.now) }
 {
     let text = text_of(alloc, rule)?;
     refused(alloc, 400, word(rule), text.as_str())
 }
 
 fn word(rule: &RuleCode) -> &'static str
-    ensures { result.now ≡ word_of rule.now }
+    ensures { result.now ≡ refusals.word_of rule.now }
 {
     match rule {
         RuleCode::E11 => "invalid_scope",
@@ -31,7 +31,7 @@ fn word(rule: &RuleCode) -> &'static str
 }
 
 fn text_of(alloc: Global, rule: &RuleCode) -> Result<Text, AllocError>
-    ensures { IfOk result (λ text. text ≡ rule_text rule.now) }
+    ensures { IfOk result (λ text. text ≡ refusals.rule_text rule.now) }
 {
     match rule {
         RuleCode::E11 => Text::copy_of(alloc, "E11"),
@@ -49,14 +49,14 @@ fn text_of(alloc: Global, rule: &RuleCode) -> Result<Text, AllocError>
 
 /// The reply to a command without a form.
 pub(crate) fn command_refused(alloc: Global, fault: CommandFault) -> Result<Reply, AllocError>
-    ensures { IfOk result (λ reply. reply ≡ command_refusal fault) }
+    ensures { IfOk result (λ reply. reply ≡ refusals.command_refusal fault) }
 {
     let text = fault_text(alloc, fault)?;
     bad_argument(alloc, text.as_str())
 }
 
 fn fault_text(alloc: Global, fault: CommandFault) -> Result<Text, AllocError>
-    ensures { IfOk result (λ text. text ≡ command_text fault) }
+    ensures { IfOk result (λ text. text ≡ refusals.fault_text fault) }
 {
     match fault {
         CommandFault::Field(member) => coded(alloc, "A3 ", Text::copy_of(alloc, member.name())?),
@@ -72,7 +72,7 @@ fn coded(alloc: Global, code: &str, detail: Text) -> Result<Text, AllocError>
 }
 
 fn jws_fault(alloc: Global, fault: JwsFault) -> Result<Text, AllocError>
-    ensures { IfOk result (λ text. text ≡ jws_text fault) }
+    ensures { IfOk result (λ text. text ≡ refusals.jws_text fault) }
 {
     match fault {
         JwsFault::Parts => Text::copy_of(alloc, "Parts"),
@@ -86,7 +86,7 @@ fn jws_fault(alloc: Global, fault: JwsFault) -> Result<Text, AllocError>
 }
 
 fn claim_fault(alloc: Global, fault: ClaimFault) -> Result<Text, AllocError>
-    ensures { IfOk result (λ text. text ≡ claim_text fault) }
+    ensures { IfOk result (λ text. text ≡ refusals.claim_text fault) }
 {
     match fault {
         ClaimFault::Json => Text::copy_of(alloc, "Json"),
@@ -102,7 +102,7 @@ fn claim_fault(alloc: Global, fault: ClaimFault) -> Result<Text, AllocError>
 }
 
 fn map_fault(alloc: Global, fault: &MapFault) -> Result<Text, AllocError>
-    ensures { IfOk result (λ text. text ≡ map_text fault.now) }
+    ensures { IfOk result (λ text. text ≡ refusals.map_text fault.now) }
 {
     match fault {
         MapFault::Issuer => Text::copy_of(alloc, "Issuer"),

@@ -3,7 +3,7 @@ ghost use Rattle.service_config.specs.declared.config.Config.{Config as Configur
 ghost use Rattle.service_config.specs.Formed.{IsFormedConfig};
 ghost use Rattle.links.specs.declared.entry.Entry.{Entry};
 ghost use Rattle.links.specs.State.{content_of};
-ghost use Rattle.sts_core.specs.Machine.{behind, exchange as exchange_of, administration, checking, introspection, step, with_entry};
+ghost use Rattle.sts_core.specs.Machine.{exchange as exchange_of, administration, checking, introspection_reply, step, with_entry};
 ghost use Rattle.sts_core.specs.State.{IsSetUp, Stands};
 
 use crate::administration::administer;
@@ -97,7 +97,7 @@ impl<D: Disk> Sts<D> {
             Route::Token => self.exchange(alloc, request, now),
             Route::Introspect => self.introspect(alloc, request, now),
             Route::Check => self.check(alloc, request, now),
-            Route::Admin => self.admin(alloc, request, now),
+            Route::Admin => self.admin(alloc, request),
             Route::Generate { .. } => Ok(not_built(alloc)?),
         }
     }
@@ -120,7 +120,7 @@ impl<D: Disk> Sts<D> {
     }
 
     /// Answers a command of an administrator: what it puts stands in place of what stood under its name.
-    pub fn admin(&mut self, alloc: Global, request: &Request, now: u64) -> Result<Reply, Stop>
+    pub fn admin(&mut self, alloc: Global, request: &Request) -> Result<Reply, Stop>
         ensures reply { (config : Configuration) (journal : List Entry) → Stands self.old config journal
             → IfOk result (λ reply. reply ≡ (administration config.admin (content_of config journal) request.now).reply) }
         ensures stands { (config : Configuration) (journal : List Entry) → Stands self.old config journal
@@ -129,7 +129,6 @@ impl<D: Disk> Sts<D> {
             → OnErr result (Stands self.new config journal) }
         ensures disk { self.new.disk ≡ self.old.disk }
     {
-        let _ = now;
         if self.state.is_full() {
             return Err(Stop::Memory);
         }
@@ -148,7 +147,7 @@ impl<D: Disk> Sts<D> {
     /// Answers an introspection (RFC 7662).
     pub fn introspect(&self, alloc: Global, request: &Request, now: u64) -> Result<Reply, Stop>
         ensures { (config : Configuration) (journal : List Entry) → Stands self.now config journal
-            → IfOk result (λ reply. reply ≡ introspection config.gate (content_of config journal) request.now now) }
+            → IfOk result (λ reply. reply ≡ introspection_reply config.gate (content_of config journal) request.now now) }
     {
         Ok(introspect(alloc, &self.gate, &self.state, request, now)?)
     }

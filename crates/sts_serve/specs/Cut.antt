@@ -6,6 +6,7 @@ use Rattle.sts_serve.specs.Frames.{IsWord, IsVisible}
 use Rattle.sts_serve.specs.declared.cut.Cut.{Cut}
 use Rattle.sts_serve.specs.declared.cut.Cut.TheVariants.{Word, Part, Never}
 
+-- a cut off the front is right: a word up to the separator, the begin of one, or neither
 abbrev pub IsCut : ℕ → ℕ → List ℕ → Cut → Type 0
 -- a word, the separator, and the rest
 IsCut separator longest bytes (Word word rest) = IsWord longest word.now × (bytes ≡ word.now ++ (separator ∷ rest.now))

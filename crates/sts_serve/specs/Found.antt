@@ -6,6 +6,7 @@ use Rattle.sts_serve.specs.Frames.{IsFrame, frame_text, NoFrame, NeverFrame, IsF
 use Rattle.sts_serve.specs.declared.frame.Found.{Found}
 use Rattle.sts_serve.specs.declared.frame.Found.TheVariants.{Whole, Part, Never}
 
+-- what is found at the front is right: a whole frame of that size, the begin of one, or neither
 abbrev pub IsFound : List ℕ → Found → Type 0
 IsFound bytes (Whole frame size) = IsFrame frame × (size ≡ length (frame_text frame)) × (bytes ≡ frame_text frame ++ drop size bytes)
 IsFound bytes Part = NoFrame bytes × IsFront bytes

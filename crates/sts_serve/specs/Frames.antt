@@ -13,9 +13,11 @@ use Rattle.sts_serve.specs.declared.frame.Frame.{Frame}
 
 -- ---- frames
 
+-- an ASCII character that is visible
 abbrev pub IsVisible : ℕ → Type 0
 IsVisible byte = (33 ≤ byte) × (byte ≤ 126)
 
+-- a word of visible characters, at least one and at most so many
 abbrev pub IsWord : ℕ → List ℕ → Type 0
 IsWord longest text = (1 ≤ length text) × (length text ≤ longest) × AllByRecursion IsVisible text
 
@@ -23,20 +25,24 @@ IsWord longest text = (1 ≤ length text) × (length text ≤ longest) × AllByR
 abbrev pub IsBearer : List ℕ → Type 0
 IsBearer text = IsWord 8192 text × (text ≢ 45 ∷ [])
 
+-- A path, a bearer, a moment and a body of their sizes.
 pub record IsFrame (frame : Frame) : Type 0 where
   pub path : IsWord 2048 frame.path
   pub bearer : IfSome frame.bearer IsBearer
   pub moment : frame.moment ≤ 200_000_000_000
   pub body : length frame.body ≤ 65536
 
+-- the word of a bearer, and `-` for none
 abbrev pub bearer_text : Option (List ℕ) → List ℕ
 bearer_text None = 45 ∷ []
 bearer_text (Some text) = text
 
 -- `PATH BEARER MOMENT LENGTH`, a line feed, the body, a line feed
 unfoldable pub frame_text : Frame → List ℕ
-frame_text frame = frame.path ++ (32 ∷ (bearer_text frame.bearer ++ (32 ∷ (decimal frame.moment ++ (32 ∷ (decimal (length frame.body) ++ (10 ∷ (frame.body ++ (10 ∷ [])))))))))
+frame_text frame = frame.path ++ (32 ∷ (bearer_text frame.bearer ++ (32 ∷ (decimal frame.moment
+    ++ (32 ∷ (decimal (length frame.body) ++ (10 ∷ (frame.body ++ (10 ∷ [])))))))))
 
+-- the texts of the frames, one after another
 abbrev pub script_text : List Frame → List ℕ
 script_text frames = flat_map frame_text frames
 
@@ -71,6 +77,7 @@ pub record ScriptSpells (bytes : List ℕ) (frames : List Frame) (rest : List �
 unfoldable pub reply_text : Reply → List ℕ
 reply_text reply = decimal reply.status ++ (32 ∷ (decimal (length reply.body) ++ (10 ∷ (reply.body ++ (10 ∷ [])))))
 
+-- the texts of the replies
 abbrev pub reply_frames : List Reply → List (List ℕ)
 reply_frames replies = map reply_text replies
 
@@ -79,5 +86,6 @@ abbrev pub answer_at : Option Route → Config → List Entry → Frame → Answ
 answer_at None config journal frame = no_entry not_found
 answer_at (Some found) config journal frame = step config journal (record { route = found; bearer = frame.bearer; body = frame.body }) frame.moment
 
+-- the answer to a frame: its path's route, and the machine's answer to the request
 abbrev pub answer : Config → List Entry → Frame → Answer
 answer config journal frame = answer_at (route frame.path) config journal frame

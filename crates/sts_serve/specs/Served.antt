@@ -18,8 +18,9 @@ abbrev pub EndsAs : Served → List ℕ → Option (List ℕ) → List Frame →
 -- the input was read to its end, and each byte of it belongs to a frame that was answered
 EndsAs Done read left frames rest answered = (rest ≡ []) × (answered ≡ length frames) × IsAtEnd left × (length read ≤ input_limit)
 -- a rest is there and is no frame: it can't become one, or the input is at its end
-EndsAs (Malformed at) read left frames rest answered =
-    (rest ≢ []) × NoFrame rest × (answered ≡ length frames) × (at ≡ length (script_text frames)) × (NeverFrame rest ⊎ IsAtEnd left) × (length read ≤ input_limit)
+EndsAs (Malformed offset) read left frames rest answered =
+    (rest ≢ []) × NoFrame rest × (answered ≡ length frames)
+    × (offset ≡ length (script_text frames)) × (NeverFrame rest ⊎ IsAtEnd left) × (length read ≤ input_limit)
 -- each frame that is whole in the bytes read was answered
 EndsAs ReadFault read left frames rest answered = NoFrame rest × (answered ≡ length frames) × (length read ≤ input_limit)
 -- each frame that is whole in the bytes within the limit was answered, and one byte more was read

@@ -22,7 +22,8 @@ pub(crate) fn answer_frame<O: Sink, D: Disk>(
     requires { frame.moment ≤ 200_000_000_000 }
     ensures answers { (config : Config) (journal : List Entry) → Stands sts.old config journal
         → (after : List Entry) × Stands sts.new config after
-        × Answers (O.taken output.old) (O.taken output.new) (reply_text (answer config journal frame).reply) journal (with_entry journal (answer config journal frame).entry) after result }
+        × Answers (O.taken output.old) (O.taken output.new) (reply_text (answer config journal frame).reply) journal
+        (with_entry journal (answer config journal frame).entry) after result }
     ensures disk { sts.new.disk ≡ sts.old.disk }
     ensures cause { result ≡ Err Served.WriteFault → Rose (O.faults output.old) (O.faults output.new) }
     ensures ends { IfErr result (λ end. (end ≡ Served.WriteFault) ⊎ (end ≡ Served.Stopped Stop.Memory)) }
@@ -50,7 +51,8 @@ pub(crate) fn answer_frame<O: Sink, D: Disk>(
 // The machine's reply to a frame.
 fn reply_to<D: Disk>(alloc: Global, sts: &mut Sts<D>, frame: Frame) -> Result<Reply, Stop>
     requires { frame.moment ≤ 200_000_000_000 }
-    ensures reply { (config : Config) (journal : List Entry) → Stands sts.old config journal → IfOk result (λ reply. reply ≡ (answer config journal frame).reply) }
+    ensures reply { (config : Config) (journal : List Entry) → Stands sts.old config journal
+        → IfOk result (λ reply. reply ≡ (answer config journal frame).reply) }
     ensures stands { (config : Config) (journal : List Entry) → Stands sts.old config journal
         → OnOk result (Stands sts.new config (with_entry journal (answer config journal frame).entry)) }
     ensures stays { (config : Config) (journal : List Entry) → Stands sts.old config journal → OnErr result (Stands sts.new config journal) }

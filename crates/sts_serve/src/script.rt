@@ -51,7 +51,7 @@ pub fn run_script<I: Source, O: Sink, D: Disk>(
                 More::Limit => return Served::InputLimit,
                 More::Memory => return Served::Stopped(Stop::Memory),
             },
-            Ok(Found::Never) => return Served::Malformed { at: used },
+            Ok(Found::Never) => return Served::Malformed { offset: used },
             Err(_) => return Served::Stopped(Stop::Memory),
         }
     }
@@ -65,6 +65,6 @@ fn at_end(carry: &Carry, used: u64) -> Served
     if carry.unused().is_empty() {
         Served::Done
     } else {
-        Served::Malformed { at: used }
+        Served::Malformed { offset: used }
     }
 }

@@ -9,7 +9,7 @@ pub enum Served {
     WriteFault,
     ClockFault,
     /// From this place on, after whole frames, stands what is no frame.
-    Malformed { at: u64 },
+    Malformed { offset: u64 },
     /// The input has more than 2^30 bytes.
     InputLimit,
     Stopped(Stop),

@@ -91,9 +91,9 @@ module _ (config : Config) (before after : List Entry) (left left' taken : Optio
     output = subst (λ (l : List ℕ). Appends taken mid l) (replied_all mid Done run run.ends.1) run.sink;
   }
 
-  malformed_of : (at : ℕ) (mid taken' : Option (List ℕ)) → ScriptRun config before after left left' taken mid (Malformed at) → Appends mid taken' (malformed_line at)
+  malformed_of : (offset : ℕ) (mid taken' : Option (List ℕ)) → ScriptRun config before after left left' taken mid (Malformed offset) → Appends mid taken' (malformed_line offset)
       → AnsweredUpTo config before left left' taken taken'
-  malformed_of at mid taken' run line = record {
+  malformed_of offset mid taken' run line = record {
     frames = run.frames;
     rest = run.rest;
     each = run.script.each;
@@ -102,8 +102,8 @@ module _ (config : Config) (before after : List Entry) (left left' taken : Optio
     none = run.ends.1;
     settled = run.ends.4;
     output = subst (λ (l : List ℕ). Appends taken taken' l)
-        (ap (λ (l : List ℕ). l ++ malformed_line at) (replied_all mid (Malformed at) run run.ends.2) ∙ ap (λ (n : ℕ). replies_text config before run.frames ++ malformed_line n) run.ends.3)
-        (appends-then taken mid taken' run.written (malformed_line at) run.sink line);
+        (ap (λ (l : List ℕ). l ++ malformed_line offset) (replied_all mid (Malformed offset) run run.ends.2) ∙ ap (λ (n : ℕ). replies_text config before run.frames ++ malformed_line n) run.ends.3)
+        (appends-then taken mid taken' run.written (malformed_line offset) run.sink line);
   }
 
   by_end : (end : Served) (mid taken' : Option (List ℕ)) → ScriptRun config before after left left' taken mid end → Closes end mid taken' 0 → AllAnswered config before left left' taken taken'
@@ -111,7 +111,7 @@ module _ (config : Config) (before after : List Entry) (left left' taken : Optio
   by_end ReadFault mid taken' run closes = absurd (omega (arith, closes.0))
   by_end WriteFault mid taken' run closes = absurd (omega (arith, closes.0))
   by_end ClockFault mid taken' run closes = absurd (omega (arith, closes.0))
-  by_end (Malformed at) mid taken' run closes = absurd (not_due (malformed_line at) 8 mid taken' 0 closes (omega arith) (omega arith) (omega arith))
+  by_end (Malformed offset) mid taken' run closes = absurd (not_due (malformed_line offset) 8 mid taken' 0 closes (omega arith) (omega arith) (omega arith))
   by_end InputLimit mid taken' run closes = absurd (omega (arith, closes.0))
   by_end (Stopped Memory) mid taken' run closes = absurd (omega (arith, closes.0))
 
@@ -123,7 +123,7 @@ module _ (config : Config) (before after : List Entry) (left left' taken : Optio
   by_line ReadFault mid taken' run closes = absurd (omega (arith, closes.0))
   by_line WriteFault mid taken' run closes = absurd (omega (arith, closes.0))
   by_line ClockFault mid taken' run closes = absurd (omega (arith, closes.0))
-  by_line (Malformed at) mid taken' run closes = malformed_of at mid taken' run (is_due (malformed_line at) 8 mid taken' 8 closes (omega arith) (omega arith))
+  by_line (Malformed offset) mid taken' run closes = malformed_of offset mid taken' run (is_due (malformed_line offset) 8 mid taken' 8 closes (omega arith) (omega arith))
   by_line InputLimit mid taken' run closes = absurd (omega (arith, closes.0))
   by_line (Stopped Memory) mid taken' run closes = absurd (omega (arith, closes.0))
 
@@ -136,7 +136,7 @@ module _ (config : Config) (before after : List Entry) (left left' taken : Optio
   past_limit ReadFault mid taken' run closes = absurd (omega (arith, closes.0))
   past_limit WriteFault mid taken' run closes = absurd (omega (arith, closes.0))
   past_limit ClockFault mid taken' run closes = absurd (omega (arith, closes.0))
-  past_limit (Malformed at) mid taken' run closes = absurd (not_due (malformed_line at) 8 mid taken' 10 closes (omega arith) (omega arith) (omega arith))
+  past_limit (Malformed offset) mid taken' run closes = absurd (not_due (malformed_line offset) 8 mid taken' 10 closes (omega arith) (omega arith) (omega arith))
   past_limit InputLimit mid taken' run closes = (run.read, run.source, run.ends.0)
   past_limit (Stopped Memory) mid taken' run closes = absurd (omega (arith, closes.0))
 
@@ -176,11 +176,11 @@ module _ (config : Config) (before after : List Entry) (frames : List Frame) (le
   complete_by InputLimit mid taken' status run closes three four =
       let front = front_of (script_text frames) left' run.read run.source in
       absurd (omega (arith, within, run.ends.0, ap length front.is, length-append run.read front.rest))
-  complete_by (Malformed at) mid taken' status run (inl due) three four =
+  complete_by (Malformed offset) mid taken' status run (inl due) three four =
       let front = front_of (script_text frames) left' run.read run.source in
       absurd (not_a_script frames run.frames run.rest front.rest left' each run.script.each (front.is ∙ ap (λ (l : List ℕ). l ++ front.rest) run.script.whole) front.left_is run.ends.0 run.ends.1 run.ends.4)
-  complete_by (Malformed at) mid taken' status run (inr (inl is)) three four = absurd (four is.0)
-  complete_by (Malformed at) mid taken' status run (inr (inr is)) three four = inr is.0
+  complete_by (Malformed offset) mid taken' status run (inr (inl is)) three four = absurd (four is.0)
+  complete_by (Malformed offset) mid taken' status run (inr (inr is)) three four = inr is.0
 
   pub complete : (left taken' : Option (List ℕ)) (status : ℕ) → left ≡ Some (script_text frames) → ScriptOutcome config before after left left' taken taken' status
       → status ≢ 3 → status ≢ 4 → (status ≡ 0) ⊎ (status ≡ 7)

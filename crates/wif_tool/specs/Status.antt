@@ -51,9 +51,9 @@ StopsBefore status = (status ≡ 1) ⊎ ((status ≡ 3) ⊎ (status ≡ 7))
 
 -- ---- a run over a script
 
--- `fault 8 at PLACE`, a line feed
+-- `fault 8 at OFFSET`, a line feed
 abbrev pub malformed_line : ℕ → List ℕ
-malformed_line at = codes "fault 8 at " ++ (decimal at ++ (10 ∷ []))
+malformed_line offset = codes "fault 8 at " ++ (decimal offset ++ (10 ∷ []))
 
 -- The line is due: it is written at this status, a proper part of it where writing fails, and nothing of it for want of memory.
 abbrev pub LineDue : List ℕ → ℕ → Option (List ℕ) → Option (List ℕ) → ℕ → Type 0
@@ -68,7 +68,7 @@ Closes Done taken taken' status = (status ≡ 0) × (taken' ≡ taken)
 Closes ReadFault taken taken' status = (status ≡ 3) × (taken' ≡ taken)
 Closes WriteFault taken taken' status = (status ≡ 4) × (taken' ≡ taken)
 Closes (Stopped Memory) taken taken' status = (status ≡ 7) × (taken' ≡ taken)
-Closes (Malformed at) taken taken' status = LineDue (malformed_line at) 8 taken taken' status
+Closes (Malformed offset) taken taken' status = LineDue (malformed_line offset) 8 taken taken' status
 Closes ClockFault taken taken' status = (status ≡ 9) × (taken' ≡ taken)
 Closes InputLimit taken taken' status = (status ≡ 10) × (taken' ≡ taken)
 
@@ -105,6 +105,7 @@ pub record AnsweredUpTo (config : Config) (before : List Entry) (left left' take
 
 -- ---- a run whose words, configuration and input have their forms
 
+-- The words are `script`, and the configuration and the input are of their forms.
 pub record HasForms (words : List (List ℕ)) (config input : Option (List ℕ)) : Type 0 where
   pub script : command words ≡ Some Script
   pub bytes : List ℕ
@@ -118,6 +119,7 @@ pub record HasForms (words : List (List ℕ)) (config input : Option (List ℕ))
 
 -- ---- a run over lines
 
+-- the status of each end of a run over lines
 abbrev pub lines_status : LinesEnd → ℕ
 lines_status lines.Done = 0
 lines_status lines.ReadFault = 3

@@ -25,8 +25,8 @@ fn words_of(rt: &HostRuntime) -> io::Result<Vec<String>> {
 }
 
 // The word at a place, or none.
-fn word_at(words: &[String], at: usize) -> &str {
-    match words.get(at) {
+fn word_at(words: &[String], index: usize) -> &str {
+    match words.get(index) {
         Some(word) => word.as_str(),
         None => "",
     }

@@ -6,7 +6,8 @@ ghost use Rattle.links.specs.declared.entry.Entry.{Entry};
 ghost use Rattle.sts_serve.specs.Frames.{ScriptSpells};
 ghost use Rattle.sts_serve.specs.declared.frame.Frame.{Frame};
 ghost use Rattle.wif_tool.specs.Command.{command, texts};
-ghost use Rattle.wif_tool.specs.Status.{Configured, NoConfiguration, NotConfigured, StopsBefore, ScriptOutcome, AllAnswered, AnsweredUpTo, HasForms, CelOutcome, HasLines, HasLongLine};
+ghost use Rattle.wif_tool.specs.Status.{Configured, NoConfiguration, NotConfigured, StopsBefore, HasForms};
+ghost use Rattle.wif_tool.specs.Status.{ScriptOutcome, AllAnswered, AnsweredUpTo, CelOutcome, HasLines, HasLongLine};
 
 use crate::Command;
 use crate::cel::cel_status;
@@ -33,8 +34,8 @@ pub fn sts_run<G: Source, I: Source, O: Sink, D: Disk, C: Clock>(
         × AllAnswered setup [] (I.left input.old) (I.left input.new) (O.taken output.old) (O.taken output.new) }
     ensures malformed { command (texts words.now) ≡ Some Command.Script → result ≡ 8 → (setup : _) × Configured (G.left config.old) (G.left config.new) setup
         × AnsweredUpTo setup [] (I.left input.old) (I.left input.new) (O.taken output.old) (O.taken output.new) }
-    ensures malformed_only { command (texts words.now) ≡ Some Command.Script → (bytes : List ℕ) (frames : List Frame) (rest : List ℕ) → I.left input.old ≡ Some bytes
-        → ScriptSpells bytes frames rest → rest ≢ [] → result ≢ 0 }
+    ensures malformed_only { command (texts words.now) ≡ Some Command.Script
+        → (bytes : List ℕ) (frames : List Frame) (rest : List ℕ) → I.left input.old ≡ Some bytes → ScriptSpells bytes frames rest → rest ≢ [] → result ≢ 0 }
 
     // With words, configuration and input of their forms and no fault all is answered, unless memory runs out.
     ensures complete { HasForms (texts words.now) (G.left config.old) (I.left input.old)

@@ -62,18 +62,18 @@ fn run_over<I: Source, O: Sink, D: Disk>(
         Served::ReadFault => 3,
         Served::WriteFault => 4,
         Served::ClockFault => 9,
-        Served::Malformed { at } => write_fault_line(alloc, output, at),
+        Served::Malformed { offset } => write_fault_line(alloc, output, offset),
         Served::InputLimit => 10,
         Served::Stopped(_) => 7,
     }
 }
 
-fn write_fault_line<O: Sink>(alloc: Global, output: &mut O, at: u64) -> u8
-    ensures line { LineDue (malformed_line at) 8 (O.taken output.old) (O.taken output.new) result }
+fn write_fault_line<O: Sink>(alloc: Global, output: &mut O, offset: u64) -> u8
+    ensures line { LineDue (malformed_line offset) 8 (O.taken output.old) (O.taken output.new) result }
     ensures cause { result ≡ 4 → Rose (O.faults output.old) (O.faults output.new) }
     ensures count { O.faults output.old ≤ O.faults output.new }
 {
-    let Ok(line) = format!(in alloc; "fault 8 at {at}\n") else {
+    let Ok(line) = format!(in alloc; "fault 8 at {offset}\n") else {
         return 7;
     };
     match write_text(output, line.as_bytes()) {

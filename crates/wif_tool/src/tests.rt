@@ -4,7 +4,7 @@ use std::test::Fail;
 use wif_base::{DripSource, MemClock, MemDisk, MemSink, MemSource, Source};
 
 const CONFIG: &[u8] =
-    b"{\"issuer\":\"https://sts.example\",\"key\":\"U1NTU1NTU1NTU1NTU1NTU1NTU1NTU1NTU1NTU1NTU1M\",\"admin\":\"admin-secret-000001\",\"gate\":\"gate-secret-0000001\"}";
+    br#"{"issuer":"https://sts.example","key":"U1NTU1NTU1NTU1NTU1NTU1NTU1NTU1NTU1NTU1NTU1M","admin":"admin-secret-000001","gate":"gate-secret-0000001"}"#;
 
 const NOT_FOUND: &str = "404 46\n{\"error\":\"not_found\",\"error_description\":\"H4\"}\n";
 

@@ -1,14 +1,17 @@
 use Rattle.links.specs.declared.entry.Entry.TheVariants as entry
 use Rattle.links.specs.declared.prepared.Plan.TheVariants as plan
+use Rattle.links.specs.Licence.{first_unlicensed}
 use Rattle.links.specs.Prepared.{planned}
-use Rattle.links.proofs.Preparing.{prepares, refused_at, room_prepares}
+use Rattle.links.proofs.Preparing.{passes_but_memory, room_prepared}
 use Rattle.links.proofs.recording.prepare_exchange.Goals as goal
+
+pub returns-in-Ok-clause-licensed : goal.returns-in-Ok-clause-licensed
+returns-in-Ok-clause-licensed c =
+    let content = c.args.state.now.content in
+    passes_but_memory c.with_room.result (first_unlicensed content (entry.Federated c.args.exchange)) c.in-Ok.ensures.licensed c.with_room.ensures.memory
 
 pub returns-in-Ok-clause-prepared : goal.returns-in-Ok-clause-prepared
 returns-in-Ok-clause-prepared c =
     let content = c.args.state.now.content in
-    room_prepares content (entry.Federated c.args.exchange) (planned (plan.Federated c.args.exchange c.in-Ok.issued)) c.with_room.result
-    (prepares content c.args.exchange c.in-Ok.issued c.in-Ok.ensures) c.with_room.ensures.prepared c.with_room.ensures.memory
-
-pub returns-in-Err-clause-prepared : goal.returns-in-Err-clause-prepared
-returns-in-Err-clause-prepared c = refused_at c.args.state.now.content c.args.exchange c.in-Err.fault c.in-Err.ensures
+    room_prepared content (entry.Federated c.args.exchange) (planned (plan.Federated c.args.exchange c.in-Ok.issued)) c.with_room.result
+    c.in-Ok.ensures.issued c.with_room.ensures.prepared

@@ -1,4 +1,4 @@
-use Rattle.std.proofs.Common.{◌≡◌, ◌≤◌, ◌^◌, ◌∙◌, length, arith, refl}
+use Rattle.std.proofs.Common.{◌≡◌, ◌∙◌, refl}
 use Rattle.std.proofs.lemmas.Result.{IfOk-weaker}
 use Rattle.links.proofs.Journals.{reached_kept}
 use Rattle.sts_core.proofs.Agrees.{check_is}
@@ -7,9 +7,8 @@ use Rattle.sts_core.proofs.checking.decide_token.Goals as goal
 pub returns : goal.returns
 returns c =
     let content = c.args.state.now.content in
-    let few : length content.links ≤ 2 ^ 32 = omega (arith, c.link_count-few.ensures.count) in
     IfOk-weaker c.decide.result _ _
     (λ decision is. is
     ∙ rw (c.view.ensures, c.key.ensures.key, c.issuer-issuer.ensures) refl
-    ∙ check_is content c.args.token.now c.args.permission.now c.args.resource.now c.args.now (reached_kept content c.entry_count-reached.ensures.reached) few)
+    ∙ check_is content c.args.token.now c.args.permission.now c.args.resource.now c.args.now (reached_kept content c.has_a_lawful_journal.ensures.reached) c.has_a_lawful_journal.ensures.few)
     c.decide.ensures

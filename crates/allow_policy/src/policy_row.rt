@@ -4,11 +4,11 @@ use std::marker::Model;
 
 /// The bindings of a policy, ready to be placed.
 #[derive(Debug, Drop)]
-pub struct Row {
+pub struct PolicyRow {
     bindings: Items<Binding>,
 }
 
-impl Model for Row {
+impl Model for PolicyRow {
     ghost use Rattle.std.specs.Prelude.{List};
     ghost use Rattle.allow_policy.specs.declared.binding.Binding.{Binding};
 
@@ -17,13 +17,13 @@ impl Model for Row {
     ghost view = { λ row. row.bindings };
 }
 
-impl Row {
+impl PolicyRow {
     ghost use Rattle.std.specs.Prelude.{◌≡◌};
 
     pub(crate) fn new(bindings: Items<Binding>) -> Self
         ensures { result ≡ bindings }
     {
-        Row { bindings }
+        PolicyRow { bindings }
     }
 
     pub(crate) fn into_bindings(self) -> Items<Binding>
