@@ -1,5 +1,5 @@
 -- What the expressions of a provider see.
-use Rattle.std.specs.Prelude.{ℕ, List, [], ◌∷◌, map, codes}
+use Rattle.std.specs.Prelude.{ℕ, List, [], ◌∷◌, ◌++◌, map, codes}
 use Rattle.cel_values.specs.declared.env.Binding.{Binding}
 use Rattle.cel_values.specs.declared.value.Value.{Value}
 use Rattle.cel_values.specs.declared.value.Value.TheViews as made
@@ -26,11 +26,18 @@ google_of who = made.Map (
     entry (codes "groups") (made.List (map Value.Text who.groups)) ∷
     entry (codes "subject") (Value.Text who.subject) ∷ [])
 
+-- an attribute as an entry of a map
+abbrev pub attribute_entry : List ℕ × List ℕ → MapEntry
+attribute_entry attribute = entry attribute.0 (Value.Text attribute.1)
+
 -- the attributes of an identity
 abbrev pub attributes_of : Identity → Value
-attributes_of who = made.Map (map (λ a. entry a.0 (Value.Text a.1)) who.attributes)
+attributes_of who = made.Map (map attribute_entry who.attributes)
+
+-- what a condition sees of an identity
+abbrev pub identity_env : Identity → Env
+identity_env who = bound (codes "google") (google_of who) ∷ bound (codes "attribute") (attributes_of who) ∷ []
 
 -- a condition sees the claims, and the identity that they are mapped to as `google` and `attribute`
 abbrev pub condition_env : Claims → Identity → Env
-condition_env claims who =
-    bound (codes "assertion") claims.tree ∷ bound (codes "google") (google_of who) ∷ bound (codes "attribute") (attributes_of who) ∷ []
+condition_env claims who = mapping_env claims ++ identity_env who

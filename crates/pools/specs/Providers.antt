@@ -20,9 +20,17 @@ pub record ProviderView : Type 0 where
   pub condition : Option Expression
   pub disabled : Bool
 
+-- one of these two
+abbrev pub is_one_of : List ℕ → List ℕ → List ℕ → Bool
+is_one_of one other audience = bytes_eq audience one || bytes_eq audience other
+
 -- the provider's name, or `https:` followed by it
 abbrev pub is_named : List ℕ → List ℕ → Bool
-is_named name audience = bytes_eq audience name || bytes_eq audience (codes "https:" ++ name)
+is_named name audience = is_one_of name (codes "https:" ++ name) audience
+
+-- one of these audiences
+abbrev pub is_listed : List (List ℕ) → List ℕ → Bool
+is_listed audiences audience = list_any (bytes_eq audience) audiences
 
 -- an audience that the provider accepts: one that it lists, and one that its name gives where it lists none
 abbrev pub is_acceptable : ProviderView → List ℕ → Bool
@@ -30,7 +38,7 @@ is_acceptable provider audience = acceptable provider.audiences
   where
     acceptable : List (List ℕ) → Bool
     acceptable [] = is_named (audience_text provider.name) audience
-    acceptable (listed ∷ more) = list_any (bytes_eq audience) (listed ∷ more)
+    acceptable (listed ∷ more) = is_listed (listed ∷ more) audience
 
 -- some audience of these is accepted
 abbrev pub accepts : ProviderView → List (List ℕ) → Bool
