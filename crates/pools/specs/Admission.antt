@@ -1,5 +1,5 @@
 -- The identity that a provider maps claims to at a moment, or the first rule that they fail.
-use Rattle.std.specs.Prelude.{ℕ, List, [], ◌∷◌, Bool, true, false, not, Option, None, Some, Result, Ok, Err}
+use Rattle.std.specs.Prelude.{ℕ, [], ◌∷◌, true, false, not, Option, None, Some, Result, Ok, Err}
 use Rattle.std.specs.Str.{bytes_eq}
 use Rattle.base_types.specs.Steps.{◌>>=◌}
 use Rattle.base_types.specs.Rules.{fails_if, first_of}

@@ -78,7 +78,7 @@ fn check_condition(
     env: &mut Env,
     identity: &Identity,
 ) -> Result<(), MapFault>
-    ensures { Answers result (passed (condition_fault (option_copied condition) (env.old ++ identity_env identity.now))) }
+    ensures { Answers result (passed (condition_fault (option_copied condition.entry) (env.old ++ identity_env identity.now))) }
 {
     let Some(condition) = condition else {
         return Ok(());

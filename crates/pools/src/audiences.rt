@@ -1,12 +1,15 @@
 ghost use Rattle.std.specs.Prelude.{◌≡◌, ◌++◌, IfOk, codes};
 ghost use Rattle.std.specs.List.{list_any};
+ghost use Rattle.iam_names.specs.Audience.{audience_text};
 ghost use Rattle.pools.specs.Providers.{accepts as accepts_some, is_named, is_listed as is_among, is_one_of as is_one_of_two};
 
 use crate::Provider;
 use base_types::Text;
+use iam_names::Audience;
 use std::alloc::{AllocError, Global};
 
 /// Whether the provider accepts one of the audiences.
+#[tactic(auto, using(crate::proofs::AcceptedAudiences::accepts_named))]
 pub(crate) fn accepts(
     alloc: Global,
     provider: &Provider,
@@ -16,13 +19,19 @@ pub(crate) fn accepts(
 {
     let listed = provider.audiences();
     if listed.is_empty() {
-        let name = provider.name().print(alloc)?;
-        let accepted = is_any_named(alloc, name.as_str(), audiences);
-        drop(name);
-        accepted
+        names_any(alloc, provider.name(), audiences)
     } else {
         Ok(is_any_listed(listed, audiences))
     }
+}
+
+fn names_any(alloc: Global, name: &Audience, audiences: &[Text]) -> Result<bool, AllocError>
+    ensures { IfOk result (λ named. named ≡ list_any (is_named (audience_text name.now)) audiences.now) }
+{
+    let name = name.print(alloc)?;
+    let named = is_any_named(alloc, name.as_str(), audiences);
+    drop(name);
+    named
 }
 
 fn is_any_listed(listed: &[Text], audiences: &[Text]) -> bool

@@ -9,8 +9,11 @@ use iam_names::Identity;
 use std::alloc::{AllocError, Global};
 
 const MAX_SUBJECT: usize = 127;
+
 const MAX_GROUPS: usize = 64;
+
 const MAX_GROUP: usize = 256;
+
 const MAX_ATTRIBUTE: usize = 256;
 
 /// The first of subject, groups and attributes that is too long fails.

@@ -52,12 +52,8 @@ fn subject_of(alloc: Global, subject: &Expression, env: &Env) -> Result<Text, Ma
     }
 }
 
-fn groups_of(
-    alloc: Global,
-    groups: Option<&Expression>,
-    env: &Env,
-) -> Result<Items<Text>, MapFault>
-    ensures { Answers result (needed fault.Groups (groups_meant (option_copied groups) env.now)) }
+fn groups_of(alloc: Global, groups: Option<&Expression>, env: &Env) -> Result<Items<Text>, MapFault>
+    ensures { Answers result (needed fault.Groups (groups_meant (option_copied groups.entry) env.now)) }
 {
     let Some(groups) = groups else {
         return Ok(Items::new(alloc));
