@@ -1,0 +1,6 @@
+pub mod Providers
+pub mod Environments
+pub mod Answers
+pub mod Mapped
+pub mod Lengths
+pub mod Admission

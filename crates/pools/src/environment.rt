@@ -1,0 +1,107 @@
+ghost use Rattle.std.specs.Prelude.{◌≡◌, ◌++◌, ◌∷◌, [], IfOk, OnOk, codes, map};
+ghost use Rattle.cel_values.specs.declared.value.Value.{Value as Datum};
+ghost use Rattle.cel_values.specs.declared.value.Value.TheViews as made;
+ghost use Rattle.pools.specs.Environments.{bound, entry, mapping_env as env_of_claims, google_of as google_of_identity, identity_env, attribute_entry};
+
+use base_types::{Items, Text, TextMap, both, kept};
+use cel_values::{Binding, Env, MapEntry, Value, copy};
+use iam_names::Identity;
+use std::alloc::{AllocError, Global};
+use wif_claims::Claims;
+
+/// The environment of a mapping: the claims as `assertion`.
+pub(crate) fn mapping_env(alloc: Global, claims: &Claims) -> Result<Env, AllocError>
+    ensures { IfOk result (λ env. env ≡ env_of_claims claims.now) }
+{
+    let tree = copy(alloc, &claims.tree)?;
+    let mut env = Items::new(alloc);
+    let went = bind(alloc, &mut env, "assertion", tree);
+    kept(env, went)
+}
+
+/// Binds the identity's names behind the claims.
+pub(crate) fn bind_identity(
+    alloc: Global,
+    env: &mut Env,
+    identity: &Identity,
+) -> Result<(), AllocError>
+    ensures { OnOk result (env.new ≡ env.old ++ identity_env identity.now) }
+{
+    let google = google_of(alloc, identity)?;
+    bind(alloc, env, "google", google)?;
+    let attributes = attributes_of(alloc, &identity.attributes)?;
+    bind(alloc, env, "attribute", attributes)
+}
+
+fn bind(alloc: Global, env: &mut Env, name: &str, value: Value) -> Result<(), AllocError>
+    ensures { OnOk result (env.new ≡ env.old ++ bound name.now value ∷ []) }
+{
+    let (name, value) = both(Text::copy_of(alloc, name), Ok(value))?;
+    env.push(Binding { name, value })
+}
+
+// The groups and the subject.
+fn google_of(alloc: Global, identity: &Identity) -> Result<Value, AllocError>
+    ensures { IfOk result (λ value. value ≡ google_of_identity identity.now) }
+{
+    let mut entries = Items::new(alloc);
+    let went = put_google(alloc, &mut entries, identity);
+    Ok(Value::Map(kept(entries, went)?))
+}
+
+fn put_google(
+    alloc: Global,
+    entries: &mut Items<MapEntry>,
+    identity: &Identity,
+) -> Result<(), AllocError>
+    ensures { OnOk result (entries.new ≡ entries.old ++ entry (codes "groups") (made.List (map Datum.Text identity.now.groups)) ∷ entry (codes "subject") (Datum.Text identity.now.subject) ∷ []) }
+{
+    let groups = texts_of(alloc, identity.groups.as_slice())?;
+    put(alloc, entries, "groups", Value::List(groups))?;
+    let subject = identity.subject.copy(alloc)?;
+    put(alloc, entries, "subject", Value::Text(subject))
+}
+
+fn texts_of(alloc: Global, texts: &[Text]) -> Result<Items<Value>, AllocError>
+    ensures { IfOk result (λ values. values ≡ map Datum.Text texts.now) }
+{
+    let mut values = Items::new(alloc);
+    for text in texts {
+        values.push(Value::Text(text.copy(alloc)?))?;
+    }
+    Ok(values)
+}
+
+fn attributes_of(alloc: Global, attributes: &TextMap<Text>) -> Result<Value, AllocError>
+    ensures { IfOk result (λ value. value ≡ made.Map (map attribute_entry attributes.now)) }
+{
+    let mut entries = Items::new(alloc);
+    let went = put_attributes(alloc, &mut entries, attributes);
+    Ok(Value::Map(kept(entries, went)?))
+}
+
+fn put_attributes(
+    alloc: Global,
+    entries: &mut Items<MapEntry>,
+    attributes: &TextMap<Text>,
+) -> Result<(), AllocError>
+    ensures { OnOk result (entries.new ≡ entries.old ++ map attribute_entry attributes.now) }
+{
+    for (name, text) in attributes.iter() {
+        let text = text.copy(alloc)?;
+        put(alloc, entries, name.as_str(), Value::Text(text))?;
+    }
+    Ok(())
+}
+
+fn put(
+    alloc: Global,
+    entries: &mut Items<MapEntry>,
+    key: &str,
+    value: Value,
+) -> Result<(), AllocError>
+    ensures { OnOk result (entries.new ≡ entries.old ++ entry key.now value ∷ []) }
+{
+    let (key, value) = both(Text::copy_of(alloc, key), Ok(value))?;
+    entries.push(MapEntry { key, value })
+}
