@@ -58,7 +58,10 @@ fn a_source_may_fail_in_the_middle_of_a_line(rt: HostRuntime) -> Result<(), Fail
         (13, "tree a\ntype fault 0 T1\nerror Unbound\n"),
         (20, "tree a\ntype fault 0 T1\nerror Unbound\n"),
         (25, "tree a\ntype fault 0 T1\nerror Unbound\n"),
-        (26, "tree a\ntype fault 0 T1\nerror Unbound\ntree b\ntype fault 0 T1\nerror Unbound\n"),
+        (
+            26,
+            "tree a\ntype fault 0 T1\nerror Unbound\ntree b\ntype fault 0 T1\nerror Unbound\n",
+        ),
     ] {
         let ran = run_slowly(alloc, input, failing)?;
         assert_eq!(rt; ran.end, LinesEnd::ReadFault, "{failing}");
@@ -70,7 +73,8 @@ fn a_source_may_fail_in_the_middle_of_a_line(rt: HostRuntime) -> Result<(), Fail
 #[test]
 fn a_sink_may_fail_within_an_answer(rt: HostRuntime) -> Result<(), Fail> {
     let alloc = rt.alloc();
-    let wanted = "tree a\ntype fault 0 T1\nerror Unbound\nbad line\ntree b\ntype fault 0 T1\nerror Unbound\n";
+    let wanted =
+        "tree a\ntype fault 0 T1\nerror Unbound\nbad line\ntree b\ntype fault 0 T1\nerror Unbound\n";
     let input = b"{\"expr\":\"a\"}\n\n{\"expr\":\"b\"}";
     let long = around(alloc, "{\"expr\":\"a\"}\n\n", b'x', 65_537, "")?;
     for room in 0..wanted.len() {

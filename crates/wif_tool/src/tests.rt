@@ -184,7 +184,12 @@ fn lines_are_answered_by_the_word_cel(rt: HostRuntime) -> Result<(), Fail> {
     let cases: [(&[u8], Failing, u8, &str); 6] = [
         (lines, NEVER, 0, answers),
         (lines, config, 0, answers),
-        (lines, input, 3, "tree (1 + 2) * 3\ntype int\nvalue 9\nsyntax 2 S1\n"),
+        (
+            lines,
+            input,
+            3,
+            "tree (1 + 2) * 3\ntype int\nvalue 9\nsyntax 2 S1\n",
+        ),
         (lines, output, 4, ""),
         (&long, NEVER, 8, "bad line\n"),
         (b"", NEVER, 0, ""),
