@@ -3,3 +3,4 @@ pub mod Rows
 pub mod Rules
 pub mod Typing
 pub mod Scopes
+pub mod Nodes
