@@ -200,7 +200,7 @@ sized_layer (Expr-F.Cond c a b) =
 sized_layer (Expr-F.Macro kind range n None p) = two_more _ _ _ (both_sized (listed range.0).1 (listed p.0).1 _ _ range.1.sized p.1.sized)
 sized_layer (Expr-F.Macro kind range n (Some test) p) =
     three_more _ _ _ _ (both_sized (listed range.0).1 ((listed test.0).1 ++ (listed p.0).1) _ _ range.1.sized
-      (both_sized (listed test.0).1 (listed p.0).1 _ _ test.1.sized p.1.sized))
+    (both_sized (listed test.0).1 (listed p.0).1 _ _ test.1.sized p.1.sized))
 
 -- ---- where a fault is
 
@@ -369,7 +369,7 @@ pub among : (e : Expr) (d : Decls) (at : ℕ) (f : TypeFault) → (typing e).of 
 among e d at f h =
     let s = (claims e).placed d at f h in
     inside f.node at (typing e).nodes (length s.before) (length s.behind) s.number
-      (counted e ∙ (ap length s.order ∙ length-append s.before (s.node ∷ s.behind)))
+    (counted e ∙ (ap length s.order ∙ length-append s.before (s.node ∷ s.behind)))
 
 pub of_node : (d : Decls) (e : Expr) (f : TypeFault) → checked d e ≡ Err f → IsOfNode d e f
 of_node d e f h =

@@ -63,7 +63,7 @@ mutual
   answers {d = d} (call {ts = ts} {f = f} {t = t} target n es h is k p) at =
       formed (expr.Call target n es) (Expr-F.Call target n es) d at (tree.rolls-Call target n es) ∙ (call_seen target n es d at
       ∙ then_ok (all_of (map typing (arguments target es)) d (at + 1)) (λ us. call_type at (is_member target) n us) ts _ (all_answer h (at + 1))
-        (call_answer at (is_member target) n f ts t is k))
+      (call_answer at (is_member target) n f ts t is k))
   answers {d = d} (not {e = e} {t = t} h is p) at =
       formed (expr.Not e) (Expr-F.Not e) d at (tree.rolls-Not e)
       ∙ then_ok _ (λ x. needed (broken at TypeRule.T3) (one_type Function.Not x)) t _ (answers h (at + 1)) (ap (needed (broken at TypeRule.T3)) is)
@@ -76,15 +76,15 @@ mutual
   answers {d = d} (choice {c = c} {a = a} {b = b} {r = r} {t = t} {u = u} h f g k i p) at =
       formed (expr.Cond c a b) (Expr-F.Cond c a b) d at (tree.rolls-Cond c a b)
       ∙ then_ok _ _ r _ (answers h (at + 1)) (then_ok _ _ t _ (answers g _)
-        (then_ok _ (choice_type at r t) u _ (answers k _) (test_ok (fits r CelType.Bool && fits t u) _ _ (both_true _ _ f i))))
+      (then_ok _ (choice_type at r t) u _ (answers k _) (test_ok (fits r CelType.Bool && fits t u) _ _ (both_true _ _ f i))))
   answers {d = d} (over {kind = kind} {n = n} {range = range} {p = body} {r = r} {t = t} {u = u} {v = v} h o g s p) at =
       formed (expr.Macro kind range n None body) (Expr-F.Macro kind range n None body) d at (tree.rolls-Macro kind range n None body)
       ∙ then_ok _ _ r _ (answers h (at + 1)) (then_ok _ _ t _ (ranges_answer at r t o)
-        (then_ok _ (gathered_type kind at t) u _ (answers g _) (gathers_answer kind at t u v s)))
+      (then_ok _ (gathered_type kind at t) u _ (answers g _) (gathers_answer kind at t u v s)))
   answers {d = d} (over_tested {kind = kind} {n = n} {range = range} {test = test} {p = body} {r = r} {t = t} {s = s} {u = u} {v = v} h o j f g k p) at =
       formed (expr.Macro kind range n (Some test) body) (Expr-F.Macro kind range n (Some test) body) d at (tree.rolls-Macro kind range n (Some test) body)
       ∙ then_ok _ _ r _ (answers h (at + 1)) (then_ok _ _ t _ (ranges_answer at r t o) (then_ok _ _ s _ (answers j _) (then_ok _ _ u _ (answers g _)
-        (then_ok _ (λ b. gathered_type kind at t u) CelType.Bool _ (fits_answer at s CelType.Bool CelType.Bool f) (gathers_answer kind at t u v k)))))
+      (then_ok _ (λ b. gathered_type kind at t u) CelType.Bool _ (fits_answer at s CelType.Bool CelType.Bool f) (gathers_answer kind at t u v k)))))
 
   all_answer : {allowed : CelType → Type 0} {d : Decls} {es : List Expr} {ts : List CelType} → AllTyped allowed d es ts → (at : ℕ)
       → all_of (map typing es) d at ≡ Ok ts
@@ -96,12 +96,13 @@ mutual
       → PairsFound ps d at ks ts
   pairs_answer no_pairs at = ([], refl, refl, refl)
   pairs_answer {d = d} (pair p {ps = ps} {k = k} {t = t} {ks = ks} {ts = ts} h g hs) at =
-      let it = pairs_answer hs (at + (pair_typing p).nodes) in
-      ((k, t) ∷ it.0,
-      then_ok _ _ (k, t) _ (pair_opened p d at ∙ then_ok _ _ k _ (answers h at) (then_ok _ (λ x. Ok (k, x)) t _ (answers g _) refl))
-        (then_ok (all_of (map pair_typing ps) d (at + (pair_typing p).nodes)) (λ us. Ok ((k, t) ∷ us)) it.0 _ it.1 refl),
-      ap (λ us. k ∷ us) it.2,
-      ap (λ us. t ∷ us) it.3)
+      let it = pairs_answer hs (at + (pair_typing p).nodes) in (
+        (k, t) ∷ it.0,
+        then_ok _ _ (k, t) _ (pair_opened p d at ∙ then_ok _ _ k _ (answers h at) (then_ok _ (λ x. Ok (k, x)) t _ (answers g _) refl))
+            (then_ok (all_of (map pair_typing ps) d (at + (pair_typing p).nodes)) (λ us. Ok ((k, t) ∷ us)) it.0 _ it.1 refl),
+        ap (λ us. k ∷ us) it.2,
+        ap (λ us. t ∷ us) it.3,
+      )
 
 -- ---- from the function to the relation
 
@@ -211,7 +212,7 @@ follows_layer (Expr-F.Macro kind range n (Some test) p) d at v h = subst (λ x. 
     from_bind (where_fits at s CelType.Bool CelType.Bool) _ v m (λ b tests o.
     from_fits at s CelType.Bool CelType.Bool b tests (λ f is.
     over_tested (range.1 d _ r of_range) (ranges_from at r t it) (test.1 (with_variable n t d) _ s of_test) f (p.1 (with_variable n t d) _ u of_p)
-      (gathers_from kind at t u v o) tt)))))))
+    (gathers_from kind at t u v o) tt)))))))
 
 follows_step : (y : Expr-F One Pair) → Follows (roll-Expr (parts y))
 follows_step y d at t h = follows_layer y d at t (sym (opened (parts y) d at) ∙ h)
