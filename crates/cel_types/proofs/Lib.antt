@@ -8,3 +8,4 @@ pub mod Families
 pub mod Relation
 pub mod Faults
 pub mod Placed
+pub mod Checked

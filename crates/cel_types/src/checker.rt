@@ -1,9 +1,11 @@
-ghost use Rattle.std.specs.Prelude.{◌≡◌, ◌+◌, OnOk, Ok, map};
+ghost use Rattle.std.specs.Prelude.{◌≡◌, ◌+◌, OnOk, IfOk, Ok, Err, map};
+ghost use Rattle.cel_types.specs.declared.fault.TypeFault.{TypeFault as TheFault};
+ghost use Rattle.cel_types.specs.declared.fault.CheckError.TheVariants.{Fault};
 ghost use Rattle.cel_builtins.specs.declared.function.Function.{Function as Operation};
 ghost use Rattle.cel_types.specs.declared.cel_type.CelType.{CelType as Kind, out-CelType};
 ghost use Rattle.base_types.specs.Steps.{needed as needed_or};
 ghost use Rattle.cel_types.specs.declared.fault.TypeRule.{TypeRule as Rule};
-ghost use Rattle.cel_types.specs.Rules.{declared, with_variable};
+ghost use Rattle.cel_types.specs.Rules.{HasType, declared, with_variable};
 ghost use Rattle.cel_types.specs.Rows.{one_type};
 ghost use Rattle.cel_types.specs.Scopes.{declarations_of};
 ghost use Rattle.cel_types.specs.Typing.{Gives, checked, typing, one, all_of, broken as broken_at, nodes_of, pair_step, selected_type as type_selected, presence_type as type_of_presence};
@@ -26,6 +28,8 @@ pub fn check(
     declarations: &[Declaration],
 ) -> Result<CelType, CheckError>
     ensures checked { Gives result (checked declarations.now expr.now) }
+    ensures typed { IfOk result (λ t. HasType declarations.now expr.now t) }
+    ensures untyped { (f : TheFault) (t : Kind) → result ≡ Err (Fault f) → HasType declarations.now expr.now t → ⊥ }
 {
     let mut scope = Scope {
         given: declarations,
