@@ -10,7 +10,7 @@ use Rattle.access_token.specs.Payload.{payload_text}
 use Rattle.allow_policy.specs.declared.put_fault.PutFault.{PutFault}
 use Rattle.service_view.specs.declared.command.Command.{Command}
 use Rattle.service_view.specs.declared.command.Command.TheVariants as command
-use Rattle.service_view.specs.declared.ready_command.Ready.{Ready}
+use Rattle.service_view.specs.declared.command.Ready.{Ready}
 use Rattle.service_view.specs.Puts.{put_fault, made_ready, command_of}
 use Rattle.links.specs.declared.entry.Entry.{Entry}
 use Rattle.links.specs.declared.entry.Entry.TheVariants as entry

@@ -6,6 +6,7 @@ pub mod Issued
 pub mod Licence
 pub mod Prepared
 pub mod Recorded
+pub mod Refusals
 pub mod Shown
 pub mod Sources
 pub mod State

@@ -1,6 +1,7 @@
+use crate::detail::{claim_fault, coded, jws_fault, map_fault};
 use base_types::Text;
 use hmac_jws::JwsFault;
-use std::alloc::AllocError;
+use std::alloc::{AllocError, Global};
 use wif_claims::ClaimFault;
 
 /// The first rule of a provider that claims fail.
@@ -41,6 +42,45 @@ pub enum RuleCode {
     A4,
     /// A new name would pass its limit.
     A6,
+}
+
+impl RuleCode {
+    ghost use Rattle.std.specs.Prelude.{◌≡◌, IfOk};
+    ghost use Rattle.links.specs.Refusals.{rule_text, word_of};
+
+    /// The error's word (RFC 6749, section 5.2; RFC 8693, section 2.2.2).
+    pub fn word(&self) -> &'static str
+        ensures { result.now ≡ word_of self.now }
+    {
+        match self {
+            RuleCode::E11 => "invalid_scope",
+            RuleCode::E14 | RuleCode::E15 => "invalid_target",
+            RuleCode::A4 | RuleCode::A6 => "invalid_argument",
+            RuleCode::E16(_)
+            | RuleCode::E17(_)
+            | RuleCode::E18(_)
+            | RuleCode::E19(_)
+            | RuleCode::E25 => "invalid_request",
+        }
+    }
+
+    /// The code, and its detail behind a space.
+    pub fn text(&self, alloc: Global) -> Result<Text, AllocError>
+        ensures { IfOk result (λ text. text ≡ rule_text self.now) }
+    {
+        match self {
+            RuleCode::E11 => Text::copy_of(alloc, "E11"),
+            RuleCode::E14 => Text::copy_of(alloc, "E14"),
+            RuleCode::E15 => Text::copy_of(alloc, "E15"),
+            RuleCode::E16(fault) => coded(alloc, "E16 ", jws_fault(alloc, *fault)?),
+            RuleCode::E17(fault) => coded(alloc, "E17 ", claim_fault(alloc, *fault)?),
+            RuleCode::E18(fault) => coded(alloc, "E18 ", map_fault(alloc, fault)?),
+            RuleCode::E19(fault) => coded(alloc, "E19 ", map_fault(alloc, fault)?),
+            RuleCode::E25 => Text::copy_of(alloc, "E25"),
+            RuleCode::A4 => Text::copy_of(alloc, "A4"),
+            RuleCode::A6 => Text::copy_of(alloc, "A6"),
+        }
+    }
 }
 
 /// Why an entry wasn't applied.

@@ -1,6 +1,7 @@
 //! The journal's entries, the links that they record, and the state that they leave.
 #![tactic(auto)]
 
+mod detail;
 mod entry;
 mod fault;
 mod federated;

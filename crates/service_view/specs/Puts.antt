@@ -7,8 +7,8 @@ use Rattle.allow_policy.specs.declared.put_fault.PutFault.{PutFault}
 use Rattle.allow_policy.specs.declared.put_fault.PutFault.TheVariants.{Limit}
 use Rattle.service_view.specs.declared.command.Command.{Command}
 use Rattle.service_view.specs.declared.command.Command.TheVariants as command
-use Rattle.service_view.specs.declared.ready_command.Ready.{Ready}
-use Rattle.service_view.specs.declared.ready_command.Ready.TheVariants as ready
+use Rattle.service_view.specs.declared.command.Ready.{Ready}
+use Rattle.service_view.specs.declared.command.Ready.TheVariants as ready
 use Rattle.service_view.specs.declared.pools.Pool.{Pool}
 use Rattle.service_view.specs.Pools.{disabled_at}
 use Rattle.service_view.specs.View.{View}

@@ -1,5 +1,6 @@
 use crate::copies::{copy_bindings, copy_names, copy_set};
-use allow_policy::{Binding, ScopeSet};
+use crate::pools::Pool;
+use allow_policy::{Binding, PolicyRow, ScopeSet};
 use base_types::Items;
 use iam_names::{Account, Permission, PoolName, Resource, Role, ScopeWord};
 use std::alloc::{AllocError, Global};
@@ -31,6 +32,28 @@ pub enum Command {
     Policy {
         resource: Resource,
         bindings: Items<Binding>,
+    },
+}
+
+/// A command that isn't refused, ready to be placed.
+#[derive(Debug, Drop)]
+pub enum Ready {
+    Pool(Pool),
+    Account {
+        account: Account,
+        disabled: bool,
+    },
+    Role {
+        role: Role,
+        permissions: Items<Permission>,
+    },
+    Scope {
+        word: ScopeWord,
+        permissions: ScopeSet,
+    },
+    Policy {
+        resource: Resource,
+        row: PolicyRow,
     },
 }
 

@@ -6,11 +6,9 @@ mod copies;
 mod limits;
 mod pools;
 mod puts;
-mod ready_command;
 mod view;
 
-pub use command::Command;
+pub use command::{Command, Ready};
 pub use pools::{Pool, Pools};
 pub use puts::{place, ready};
-pub use ready_command::Ready;
 pub use view::{View, cloud_platform};

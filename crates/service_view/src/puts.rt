@@ -3,10 +3,9 @@ ghost use Rattle.allow_policy.specs.Puts.{RefusesBy};
 ghost use Rattle.service_view.specs.Puts.{put_fault, command_of, made_ready};
 ghost use Rattle.service_view.specs.View.{view_after};
 
-use crate::command::Command;
+use crate::command::{Command, Ready};
 use crate::limits::{are_accounts_full, are_pools_full};
 use crate::pools::Pool;
-use crate::ready_command::Ready;
 use crate::view::View;
 use allow_policy::{PutFault, place_role, place_scope, ready_role, ready_scope};
 

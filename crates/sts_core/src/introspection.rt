@@ -20,7 +20,7 @@ pub(crate) fn introspect(
     request: &Request,
     now: u64,
 ) -> Result<Reply, AllocError>
-    ensures { IfOk result (λ reply. reply ≡ introspection gate.now state.now.content request.now now) }
+    ensures { IfOk result (λ reply. reply ≡ introspection_reply gate.now state.now.content request.now now) }
 {
     if !is_bearer(gate, &request.bearer) {
         return no_bearer(alloc);

@@ -3,7 +3,7 @@ use Rattle.std.specs.Prelude.{Err}
 use Rattle.allow_policy.specs.Puts.{RefusesBy}
 use Rattle.allow_policy.specs.declared.put_fault.PutFault.{PutFault}
 use Rattle.allow_policy.specs.declared.put_fault.PutFault.TheVariants.{UnknownRole, Limit}
-use Rattle.service_view.specs.declared.ready_command.Ready.{Ready}
+use Rattle.service_view.specs.declared.command.Ready.{Ready}
 use Rattle.service_view.specs.Puts.{put_fault}
 use Rattle.links.specs.declared.entry.Entry.TheVariants as entry
 use Rattle.links.specs.declared.prepared.Plan.TheVariants as plan
