@@ -1,2 +1,5 @@
-pub mod Attributes
 pub mod AcceptedAudiences
+pub mod Attributes
+pub mod MappedParts
+pub mod PassedRules
+pub mod AdmittedClaims

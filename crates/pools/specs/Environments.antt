@@ -21,10 +21,12 @@ abbrev pub mapping_env : Claims → Env
 mapping_env claims = bound (codes "assertion") claims.tree ∷ []
 
 -- the groups and the subject of an identity
+abbrev pub google_entries : Identity → List MapEntry
+google_entries who = entry (codes "groups") (made.List (map Value.Text who.groups)) ∷ entry (codes "subject") (Value.Text who.subject) ∷ []
+
+-- the same as a map
 abbrev pub google_of : Identity → Value
-google_of who = made.Map (
-    entry (codes "groups") (made.List (map Value.Text who.groups)) ∷
-    entry (codes "subject") (Value.Text who.subject) ∷ [])
+google_of who = made.Map (google_entries who)
 
 -- an attribute as an entry of a map
 abbrev pub attribute_entry : List ℕ × List ℕ → MapEntry

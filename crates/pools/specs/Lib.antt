@@ -4,3 +4,4 @@ pub mod Answers
 pub mod Mapped
 pub mod Lengths
 pub mod Admission
+pub mod Admitted

@@ -4,8 +4,8 @@ ghost use Rattle.wif_claims.specs.declared.claims.Claims.{Claims as Claimed};
 ghost use Rattle.cel_values.specs.declared.value.Value.{out-Value};
 ghost use Rattle.cel_eval.specs.Denotation.{denotation};
 ghost use Rattle.pools.specs.Answers.{Answers, passed};
-ghost use Rattle.pools.specs.Admission.{identity_of, identity_in, first_claims_fault, condition_fault, truth_fault, unless_true as fault_unless_true};
-ghost use Rattle.pools.specs.Environments.{mapping_env as env_of_claims, identity_env};
+ghost use Rattle.pools.specs.Admission.{identity_of, identity_in, first_claims_fault, condition_fault, truth_fault, unless_true};
+ghost use Rattle.pools.specs.Environments as seen;
 
 use crate::audiences::accepts;
 use crate::environment::{bind_identity, mapping_env};
@@ -63,7 +63,7 @@ fn check_claims(
 // The identity of claims that are for the provider now. It binds the identity's names behind the claims.
 #[tactic(auto, unfolding(crate::specs::Admission::identity_in))]
 fn identity_seen(alloc: Global, provider: &Provider, env: &mut Env) -> Result<Identity, MapFault>
-    ensures { (claims : Claimed) → env.old ≡ env_of_claims claims → Answers result (identity_in provider.now claims) }
+    ensures { (claims : Claimed) → env.old ≡ seen.mapping_env claims → Answers result (identity_in provider.now claims) }
 {
     let identity = mapped(alloc, provider.mapping(), env)?;
     let sized = check_lengths(alloc, &identity);
@@ -78,7 +78,7 @@ fn check_condition(
     env: &mut Env,
     identity: &Identity,
 ) -> Result<(), MapFault>
-    ensures { Answers result (passed (condition_fault (option_copied condition.entry) (env.old ++ identity_env identity.now))) }
+    ensures { Answers result (passed (condition_fault (option_copied condition.entry) (env.old ++ seen.identity_env identity.now))) }
 {
     let Some(condition) = condition else {
         return Ok(());
@@ -92,7 +92,7 @@ fn check_truth(alloc: Global, condition: &Expr, env: &Env) -> Result<(), MapFaul
 {
     match eval(alloc, condition, env) {
         Ok(value) => {
-            let went = unless_true(&value);
+            let went = check_bool(&value);
             drop(value);
             went
         }
@@ -101,8 +101,8 @@ fn check_truth(alloc: Global, condition: &Expr, env: &Env) -> Result<(), MapFaul
     }
 }
 
-fn unless_true(value: &Value) -> Result<(), MapFault>
-    ensures { result ≡ passed (fault_unless_true (out-Value value.now)) }
+fn check_bool(value: &Value) -> Result<(), MapFault>
+    ensures { result ≡ passed (unless_true (out-Value value.now)) }
 {
     match value {
         Value::Bool(true) => Ok(()),

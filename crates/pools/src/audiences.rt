@@ -1,7 +1,7 @@
 ghost use Rattle.std.specs.Prelude.{◌≡◌, ◌++◌, IfOk, codes};
 ghost use Rattle.std.specs.List.{list_any};
 ghost use Rattle.iam_names.specs.Audience.{audience_text};
-ghost use Rattle.pools.specs.Providers.{accepts as accepts_some, is_named, is_listed as is_among, is_one_of as is_one_of_two};
+ghost use Rattle.pools.specs.Providers as providers;
 
 use crate::Provider;
 use base_types::Text;
@@ -15,7 +15,7 @@ pub(crate) fn accepts(
     provider: &Provider,
     audiences: &[Text],
 ) -> Result<bool, AllocError>
-    ensures { IfOk result (λ accepted. accepted ≡ accepts_some provider.now audiences.now) }
+    ensures { IfOk result (λ accepted. accepted ≡ providers.accepts provider.now audiences.now) }
 {
     let listed = provider.audiences();
     if listed.is_empty() {
@@ -26,7 +26,7 @@ pub(crate) fn accepts(
 }
 
 fn names_any(alloc: Global, name: &Audience, audiences: &[Text]) -> Result<bool, AllocError>
-    ensures { IfOk result (λ named. named ≡ list_any (is_named (audience_text name.now)) audiences.now) }
+    ensures { IfOk result (λ named. named ≡ list_any (providers.is_named (audience_text name.now)) audiences.now) }
 {
     let name = name.print(alloc)?;
     let named = is_any_named(alloc, name.as_str(), audiences);
@@ -35,7 +35,7 @@ fn names_any(alloc: Global, name: &Audience, audiences: &[Text]) -> Result<bool,
 }
 
 fn is_any_listed(listed: &[Text], audiences: &[Text]) -> bool
-    ensures { result ≡ list_any (is_among listed.now) audiences.now }
+    ensures { result ≡ list_any (providers.is_listed listed.now) audiences.now }
 {
     for audience in audiences {
         if is_listed(listed, audience.as_str()) {
@@ -46,7 +46,7 @@ fn is_any_listed(listed: &[Text], audiences: &[Text]) -> bool
 }
 
 fn is_listed(listed: &[Text], audience: &str) -> bool
-    ensures { result ≡ is_among listed.now audience.now }
+    ensures { result ≡ providers.is_listed listed.now audience.now }
 {
     for text in listed {
         if audience == text.as_str() {
@@ -57,7 +57,7 @@ fn is_listed(listed: &[Text], audience: &str) -> bool
 }
 
 fn is_any_named(alloc: Global, name: &str, audiences: &[Text]) -> Result<bool, AllocError>
-    ensures { IfOk result (λ named. named ≡ list_any (is_named name.now) audiences.now) }
+    ensures { IfOk result (λ named. named ≡ list_any (providers.is_named name.now) audiences.now) }
 {
     let secure = secure_name(alloc, name)?;
     let named = is_any_of(name, secure.as_str(), audiences);
@@ -66,7 +66,7 @@ fn is_any_named(alloc: Global, name: &str, audiences: &[Text]) -> Result<bool, A
 }
 
 fn is_any_of(one: &str, other: &str, audiences: &[Text]) -> bool
-    ensures { result ≡ list_any (is_one_of_two one.now other.now) audiences.now }
+    ensures { result ≡ list_any (providers.is_one_of one.now other.now) audiences.now }
 {
     for audience in audiences {
         if is_one_of(audience.as_str(), one, other) {
@@ -77,7 +77,7 @@ fn is_any_of(one: &str, other: &str, audiences: &[Text]) -> bool
 }
 
 fn is_one_of(audience: &str, one: &str, other: &str) -> bool
-    ensures { result ≡ is_one_of_two one.now other.now audience.now }
+    ensures { result ≡ providers.is_one_of one.now other.now audience.now }
 {
     audience == one || audience == other
 }

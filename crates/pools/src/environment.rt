@@ -1,7 +1,7 @@
 ghost use Rattle.std.specs.Prelude.{◌≡◌, ◌++◌, ◌∷◌, [], IfOk, OnOk, codes, map};
 ghost use Rattle.cel_values.specs.declared.value.Value.{Value as Datum};
 ghost use Rattle.cel_values.specs.declared.value.Value.TheViews as made;
-ghost use Rattle.pools.specs.Environments.{bound, entry, mapping_env as env_of_claims, google_of as google_of_identity, identity_env, attribute_entry};
+ghost use Rattle.pools.specs.Environments as seen;
 
 use base_types::{Items, Text, TextMap, both, kept};
 use cel_values::{Binding, Env, MapEntry, Value, copy};
@@ -11,7 +11,7 @@ use wif_claims::Claims;
 
 /// The environment of a mapping: the claims as `assertion`.
 pub(crate) fn mapping_env(alloc: Global, claims: &Claims) -> Result<Env, AllocError>
-    ensures { IfOk result (λ env. env ≡ env_of_claims claims.now) }
+    ensures { IfOk result (λ env. env ≡ seen.mapping_env claims.now) }
 {
     let tree = copy(alloc, &claims.tree)?;
     let mut env = Items::new(alloc);
@@ -25,7 +25,7 @@ pub(crate) fn bind_identity(
     env: &mut Env,
     identity: &Identity,
 ) -> Result<(), AllocError>
-    ensures { OnOk result (env.new ≡ env.old ++ identity_env identity.now) }
+    ensures { OnOk result (env.new ≡ env.old ++ seen.identity_env identity.now) }
 {
     let google = google_of(alloc, identity)?;
     bind(alloc, env, "google", google)?;
@@ -34,7 +34,7 @@ pub(crate) fn bind_identity(
 }
 
 fn bind(alloc: Global, env: &mut Env, name: &str, value: Value) -> Result<(), AllocError>
-    ensures { OnOk result (env.new ≡ env.old ++ bound name.now value ∷ []) }
+    ensures { OnOk result (env.new ≡ env.old ++ seen.bound name.now value ∷ []) }
 {
     let (name, value) = both(Text::copy_of(alloc, name), Ok(value))?;
     env.push(Binding { name, value })
@@ -42,7 +42,7 @@ fn bind(alloc: Global, env: &mut Env, name: &str, value: Value) -> Result<(), Al
 
 // The groups and the subject.
 fn google_of(alloc: Global, identity: &Identity) -> Result<Value, AllocError>
-    ensures { IfOk result (λ value. value ≡ google_of_identity identity.now) }
+    ensures { IfOk result (λ value. value ≡ seen.google_of identity.now) }
 {
     let mut entries = Items::new(alloc);
     let went = put_google(alloc, &mut entries, identity);
@@ -54,7 +54,7 @@ fn put_google(
     entries: &mut Items<MapEntry>,
     identity: &Identity,
 ) -> Result<(), AllocError>
-    ensures { OnOk result (entries.new ≡ entries.old ++ entry (codes "groups") (made.List (map Datum.Text identity.now.groups)) ∷ entry (codes "subject") (Datum.Text identity.now.subject) ∷ []) }
+    ensures { OnOk result (entries.new ≡ entries.old ++ seen.google_entries identity.now) }
 {
     let groups = texts_of(alloc, identity.groups.as_slice())?;
     put(alloc, entries, "groups", Value::List(groups))?;
@@ -73,7 +73,7 @@ fn texts_of(alloc: Global, texts: &[Text]) -> Result<Items<Value>, AllocError>
 }
 
 fn attributes_of(alloc: Global, attributes: &TextMap<Text>) -> Result<Value, AllocError>
-    ensures { IfOk result (λ value. value ≡ made.Map (map attribute_entry attributes.now)) }
+    ensures { IfOk result (λ value. value ≡ made.Map (map seen.attribute_entry attributes.now)) }
 {
     let mut entries = Items::new(alloc);
     let went = put_attributes(alloc, &mut entries, attributes);
@@ -85,7 +85,7 @@ fn put_attributes(
     entries: &mut Items<MapEntry>,
     attributes: &TextMap<Text>,
 ) -> Result<(), AllocError>
-    ensures { OnOk result (entries.new ≡ entries.old ++ map attribute_entry attributes.now) }
+    ensures { OnOk result (entries.new ≡ entries.old ++ map seen.attribute_entry attributes.now) }
 {
     for (name, text) in attributes.iter() {
         let text = text.copy(alloc)?;
@@ -100,7 +100,7 @@ fn put(
     key: &str,
     value: Value,
 ) -> Result<(), AllocError>
-    ensures { OnOk result (entries.new ≡ entries.old ++ entry key.now value ∷ []) }
+    ensures { OnOk result (entries.new ≡ entries.old ++ seen.entry key.now value ∷ []) }
 {
     let (key, value) = both(Text::copy_of(alloc, key), Ok(value))?;
     entries.push(MapEntry { key, value })

@@ -5,6 +5,7 @@ mod admission;
 mod audiences;
 mod environment;
 mod fault;
+mod laws;
 mod lengths;
 mod mapping;
 mod provider;
@@ -12,5 +13,6 @@ mod texts;
 
 pub use admission::admit;
 pub use fault::MapFault;
+pub use laws::admitted_claims_pass_each_rule;
 pub use mapping::Mapping;
 pub use provider::{Provider, TokenIssuer};

@@ -3,7 +3,7 @@ ghost use Rattle.cel_eval.specs.Denotation.{denotation};
 ghost use Rattle.base_types.specs.Steps.{needed};
 ghost use Rattle.std.specs.Option.{option_copied};
 ghost use Rattle.pools.specs.Answers.{Answers};
-ghost use Rattle.pools.specs.Mapped.{mapped as identity_mapped, text_of as text_meant, groups_of as groups_meant, attribute_of as attribute_meant, attributes_of as attributes_meant};
+ghost use Rattle.pools.specs.Mapped as meant;
 ghost use Rattle.pools.specs.declared.fault.MapFault.TheVariants as fault;
 
 use crate::MapFault;
@@ -28,7 +28,7 @@ pub struct Mapping {
 /// The identity that the mapping gives in an environment, whatever its lengths.
 #[tactic(auto, unfolding(crate::specs::Mapped::mapped))]
 pub(crate) fn mapped(alloc: Global, mapping: &Mapping, env: &Env) -> Result<Identity, MapFault>
-    ensures { Answers result (identity_mapped mapping.now env.now) }
+    ensures { Answers result (meant.mapped mapping.now env.now) }
 {
     let subject = subject_of(alloc, &mapping.subject, env)?;
     let (subject, groups) = both(Ok(subject), groups_of(alloc, mapping.groups.as_ref(), env))?;
@@ -44,7 +44,7 @@ pub(crate) fn mapped(alloc: Global, mapping: &Mapping, env: &Env) -> Result<Iden
 }
 
 fn subject_of(alloc: Global, subject: &Expression, env: &Env) -> Result<Text, MapFault>
-    ensures { Answers result (needed fault.Subject (text_meant (denotation subject.now.tree env.now))) }
+    ensures { Answers result (needed fault.Subject (meant.text_of (denotation subject.now.tree env.now))) }
 {
     match text_of(alloc, &subject.tree, env)? {
         Some(text) => Ok(text),
@@ -53,7 +53,7 @@ fn subject_of(alloc: Global, subject: &Expression, env: &Env) -> Result<Text, Ma
 }
 
 fn groups_of(alloc: Global, groups: Option<&Expression>, env: &Env) -> Result<Items<Text>, MapFault>
-    ensures { Answers result (needed fault.Groups (groups_meant (option_copied groups.entry) env.now)) }
+    ensures { Answers result (needed fault.Groups (meant.groups_of (option_copied groups.entry) env.now)) }
 {
     let Some(groups) = groups else {
         return Ok(Items::new(alloc));
@@ -69,7 +69,7 @@ fn attributes_of(
     attributes: &TextMap<Expression>,
     env: &Env,
 ) -> Result<TextMap<Text>, MapFault>
-    ensures { Answers result (attributes_meant attributes.now env.now) }
+    ensures { Answers result (meant.attributes_of attributes.now env.now) }
 {
     // Its contract says that the names rise.
     let _ = attributes.len();
@@ -87,7 +87,7 @@ fn attribute_of(
     attribute: &Expression,
     env: &Env,
 ) -> Result<Text, MapFault>
-    ensures { Answers result (attribute_meant name.now attribute.now env.now) }
+    ensures { Answers result (meant.attribute_of name.now attribute.now env.now) }
 {
     match text_of(alloc, &attribute.tree, env)? {
         Some(text) => Ok(text),

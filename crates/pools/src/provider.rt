@@ -56,7 +56,15 @@ impl Provider {
         condition: Option<Expression>,
         disabled: bool,
     ) -> Self
-        ensures { result ≡ record { name = name; issuer = issuer.name; key = issuer.key; audiences = issuer.audiences; mapping = mapping; condition = condition; disabled = disabled } }
+        ensures { result ≡ record {
+          name = name;
+          issuer = issuer.name;
+          key = issuer.key;
+          audiences = issuer.audiences;
+          mapping = mapping;
+          condition = condition;
+          disabled = disabled;
+        } }
     {
         Provider {
             name,

@@ -1,7 +1,7 @@
 ghost use Rattle.std.specs.Prelude.{◌≡◌, IfOk, map, option_map};
 ghost use Rattle.cel_values.specs.declared.value.Value.{out-Value};
 ghost use Rattle.cel_eval.specs.Denotation.{denotation};
-ghost use Rattle.pools.specs.Mapped.{text_of as text_meant, texts_of as texts_meant, text_of_value, texts_of_shape, all_there};
+ghost use Rattle.pools.specs.Mapped as meant;
 
 use base_types::{Items, Text};
 use cel_eval::eval;
@@ -10,7 +10,7 @@ use std::alloc::{AllocError, Global};
 
 /// The text that the expression means, unless it is an error, no text or empty.
 pub(crate) fn text_of(alloc: Global, tree: &Expr, env: &Env) -> Result<Option<Text>, AllocError>
-    ensures { IfOk result (λ text. text ≡ text_meant (denotation tree.now env.now)) }
+    ensures { IfOk result (λ text. text ≡ meant.text_of (denotation tree.now env.now)) }
 {
     match eval(alloc, tree, env) {
         Ok(value) => {
@@ -29,7 +29,7 @@ pub(crate) fn texts_of(
     tree: &Expr,
     env: &Env,
 ) -> Result<Option<Items<Text>>, AllocError>
-    ensures { IfOk result (λ texts. texts ≡ texts_meant (denotation tree.now env.now)) }
+    ensures { IfOk result (λ texts. texts ≡ meant.texts_of (denotation tree.now env.now)) }
 {
     match eval(alloc, tree, env) {
         Ok(value) => {
@@ -43,7 +43,7 @@ pub(crate) fn texts_of(
 }
 
 fn text_copied(alloc: Global, value: &Value) -> Result<Option<Text>, AllocError>
-    ensures { IfOk result (λ text. text ≡ text_of_value value.now) }
+    ensures { IfOk result (λ text. text ≡ meant.text_of_value value.now) }
 {
     match text_in(value) {
         None => Ok(None),
@@ -52,7 +52,7 @@ fn text_copied(alloc: Global, value: &Value) -> Result<Option<Text>, AllocError>
 }
 
 fn texts_copied(alloc: Global, value: &Value) -> Result<Option<Items<Text>>, AllocError>
-    ensures { IfOk result (λ texts. texts ≡ texts_of_shape (out-Value value.now)) }
+    ensures { IfOk result (λ texts. texts ≡ meant.texts_of_shape (out-Value value.now)) }
 {
     match value {
         Value::List(values) => texts_in(alloc, values.as_slice()),
@@ -61,7 +61,7 @@ fn texts_copied(alloc: Global, value: &Value) -> Result<Option<Items<Text>>, All
 }
 
 fn texts_in(alloc: Global, values: &[Value]) -> Result<Option<Items<Text>>, AllocError>
-    ensures { IfOk result (λ texts. texts ≡ all_there (map text_of_value values.now)) }
+    ensures { IfOk result (λ texts. texts ≡ meant.all_there (map meant.text_of_value values.now)) }
 {
     let mut texts = Items::new(alloc);
     for value in values {
@@ -75,7 +75,7 @@ fn texts_in(alloc: Global, values: &[Value]) -> Result<Option<Items<Text>>, Allo
 
 // A text that isn't empty.
 fn text_in(value: &Value) -> Option<&str>
-    ensures { option_map (λ text. text.now) result ≡ text_of_value value.now }
+    ensures { option_map (λ text. text.now) result ≡ meant.text_of_value value.now }
 {
     match value {
         Value::Text(text) if !text.as_str().is_empty() => Some(text.as_str()),
