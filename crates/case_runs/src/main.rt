@@ -8,6 +8,7 @@ mod inputs;
 mod json;
 mod names;
 mod policies;
+mod providers;
 mod service;
 mod signatures;
 
@@ -50,6 +51,7 @@ fn answer_of_names(alloc: Global, call: &str, inputs: &Inputs) -> Result<String,
         "tree" => expressions::tree(alloc, inputs),
         "lines" => expressions::lines(alloc, inputs),
         "overloads" => expressions::overloads(alloc),
+        "admit" => providers::admitted(alloc, inputs),
         _ => "no such call".to_owned(alloc),
     }
 }
