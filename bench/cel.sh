@@ -2,6 +2,7 @@
 # Lines a second and the peak of memory of `sts cel` over lines of some 60 bytes, and the time a token of texts of 32
 # and of 512 tokens, however they nest. Times are the processor's, so that other work on the machine counts little.
 # Where valgrind is there, it counts the instructions a token too, which caches and the C library's heap don't blur.
+# Then the instructions that checking types takes beside reading and printing the same text, in each crate's own functions.
 # Last what evaluating a condition over claims of 2 kB takes, beside reading its line: two lines differ in a word alone, and
 # one of them evaluates the condition 30 times where the other doesn't.
 . "$(dirname "$0")/setup.sh"
@@ -98,6 +99,30 @@ for name, text in shapes.items():
     if counted:
         row += ''.join(f' {instructions_a_token(text(tokens), tokens):16.0f}' for tokens in (32, 512))
     print(row, flush=True)
+
+def own_instructions(text, names, count):
+    # those of each crate's own functions a line; each name is of type dyn
+    with open(work + '/input', 'wb') as f:
+        f.write(line(text, env=dict.fromkeys(names, 1)) * count)
+    with open(work + '/input', 'rb') as source:
+        subprocess.run(['valgrind', '--tool=callgrind', '--callgrind-out-file=' + work + '/calls', work + '/sts', 'cel'],
+                       stdin=source, capture_output=True, check=True)
+    told = subprocess.run(['callgrind_annotate', '--threshold=100', work + '/calls'], capture_output=True, text=True, check=True).stdout
+    own = {}
+    for number, crate in re.findall(r'^ *([0-9,]+) .*?:(cel_[a-z]+)::', told, re.M):
+        own[crate] = own.get(crate, 0) + int(number.replace(',', '')) / count
+    return own
+
+if counted:
+    print(f"\n{'checked text':24} {'types: instr':>14} {'tokens, grammar, syntax: instr':>32}")
+    for name, text in {
+            'owner and ref': 'assertion.repository_owner == "octo" && assertion.ref.startsWith("refs/heads/")',
+            'a + a + ..': 'a' + '+a' * 250,
+            'a < a && ..': ' && '.join(['a < a'] * 100),
+            'a.map(x, [x])..': 'a' + '.map(x, [x])' * 20}.items():
+        own = own_instructions(text, ('a', 'assertion'), 50)
+        reading = sum(own.get(crate, 0) for crate in ('cel_tokens', 'cel_grammar', 'cel_syntax'))
+        print(f"{name:24} {own['cel_types']:14.0f} {reading:32.0f}", flush=True)
 
 # texts under the names of a provider's claims
 names = ('actor actor_id aud base_ref enterprise environment event_name exp head_ref iat iss job_workflow_ref jti nbf ref '
