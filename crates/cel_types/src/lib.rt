@@ -15,4 +15,5 @@ pub use cel_type::{CelType, Declaration};
 pub use checker::check;
 pub use copying::copy_type;
 pub use fault::{CheckError, TypeFault, TypeRule};
+pub use fitting::fits;
 pub use laws::{check_is_by_the_rules, faults_are_numbered_by_the_text};

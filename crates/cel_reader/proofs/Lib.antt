@@ -1,0 +1,3 @@
+pub mod WordsFound
+pub mod TreesFound
+pub mod ExpressionsFound
