@@ -8,22 +8,25 @@ use Rattle.iam_names.specs.Member.{names_who}
 use Rattle.iam_names.specs.Resource.{covers}
 use Rattle.iam_names.specs.Roles.{holds}
 use Rattle.iam_names.specs.declared.who.Who.{Who}
+use Rattle.allow_policy.specs.Conditions.{condition_holds}
 use Rattle.allow_policy.specs.Lists.{Lists}
 use Rattle.allow_policy.specs.declared.binding.Binding.{Binding}
 use Rattle.allow_policy.specs.declared.scope_set.ScopeSet.{ScopeSet}
 use Rattle.allow_policy.specs.declared.scope_set.ScopeSet.TheVariants.{All, List as Only}
 
--- the binding's role holds the permission now, and a member of it names who asks
-abbrev pub binding_grants : Lists → Who → List ℕ → Binding → Bool
-binding_grants lists who permission binding = holds lists.roles binding.role permission && list_any (λ member. names_who member who) binding.members
+-- the binding's role holds the permission now, a member of it names who asks, and its condition holds
+abbrev pub binding_grants : Lists → Who → List ℕ → List ℕ → ℕ → Binding → Bool
+binding_grants lists who permission resource now binding =
+    holds lists.roles binding.role permission
+    && (list_any (λ member. names_who member who) binding.members && condition_holds binding.condition resource now)
 
 -- the policy's resource covers the resource, and a binding of it grants
-abbrev pub policy_grants : Lists → Who → List ℕ → List ℕ → List ℕ × List Binding → Bool
-policy_grants lists who permission resource policy = covers policy.0 resource && list_any (binding_grants lists who permission) policy.1
+abbrev pub policy_grants : Lists → Who → List ℕ → List ℕ → ℕ → List ℕ × List Binding → Bool
+policy_grants lists who permission resource now policy = covers policy.0 resource && list_any (binding_grants lists who permission resource now) policy.1
 
--- some policy grants the permission on the resource to who asks, whatever the moment
+-- some policy grants the permission on the resource to who asks, at the moment
 unfoldable pub granted : Lists → Who → List ℕ → List ℕ → ℕ → Bool
-granted lists who permission resource now = list_any (policy_grants lists who permission resource) lists.policies
+granted lists who permission resource now = list_any (policy_grants lists who permission resource now) lists.policies
 
 -- what a scope word stands for has the permission
 abbrev pub set_allows : List ℕ → ScopeSet → Bool

@@ -1,3 +1,4 @@
+pub mod Conditions
 pub mod Granting
 pub mod Lists
 pub mod Puts

@@ -4,6 +4,7 @@ ghost use Rattle.iam_names.specs.Member.{names_who as member_names};
 ghost use Rattle.allow_policy.specs.Granting as granting;
 
 use crate::binding::Binding;
+use crate::condition::condition_holds;
 use crate::policies::Policies;
 use crate::scope_set::ScopeSet;
 use base_types::{Items, Text};
@@ -16,7 +17,7 @@ use std::alloc::{AllocError, Global};
 /// asks, at the moment `now` in seconds.
 #[tactic(auto, unfolding(crate::specs::Granting::granted))]
 pub fn granted(
-    _alloc: Global,
+    alloc: Global,
     p: &Policies,
     who: &Who,
     permission: &Permission,
@@ -25,12 +26,12 @@ pub fn granted(
 ) -> Result<bool, AllocError>
     ensures { IfOk result (λ yes. yes ≡ granting.granted p.now.lists who.now permission.now resource.now now) }
 {
-    let _ = now;
-    Ok(
-        p.policies.rows().iter().any(|policy| {
-            policy_grants(p, who, permission, resource, policy)
-        }),
-    )
+    for policy in p.policies.rows() {
+        if policy_grants(alloc, p, who, permission, resource, now, policy)? {
+            return Ok(true);
+        }
+    }
+    Ok(false)
 }
 
 /// Whether some word of the list stands for all permissions or for a list with this one.
@@ -48,42 +49,76 @@ pub fn knows_scope(p: &Policies, word: &str) -> bool
     p.scopes.contains(word)
 }
 
-fn binding_grants(p: &Policies, who: &Who, permission: &Permission, binding: &Binding) -> bool
-    ensures { result ≡ granting.binding_grants p.now.lists who.now permission.now binding.now }
+fn policy_grants(
+    alloc: Global,
+    p: &Policies,
+    who: &Who,
+    permission: &Permission,
+    resource: &Resource,
+    now: u64,
+    policy: &(Text, Items<Binding>),
+) -> Result<bool, AllocError>
+    ensures { IfOk result (λ yes. yes ≡ granting.policy_grants p.now.lists who.now permission.now resource.now now policy.now) }
 {
-    p.roles.holds(&binding.role, permission) && has_member(binding.members.as_slice(), who)
+    if !covers_text(policy.0.as_str(), resource.as_str()) {
+        return Ok(false);
+    }
+    some_binding_grants(
+        alloc,
+        p,
+        who,
+        permission,
+        resource,
+        now,
+        policy.1.as_slice(),
+    )
+}
+
+fn some_binding_grants(
+    alloc: Global,
+    p: &Policies,
+    who: &Who,
+    permission: &Permission,
+    resource: &Resource,
+    now: u64,
+    bindings: &[Binding],
+) -> Result<bool, AllocError>
+    ensures { IfOk result (λ yes. yes
+        ≡ list_any (granting.binding_grants p.now.lists who.now permission.now resource.now now) bindings.now) }
+{
+    for binding in bindings {
+        if binding_grants(alloc, p, who, permission, resource, now, binding)? {
+            return Ok(true);
+        }
+    }
+    Ok(false)
+}
+
+fn binding_grants(
+    alloc: Global,
+    p: &Policies,
+    who: &Who,
+    permission: &Permission,
+    resource: &Resource,
+    now: u64,
+    binding: &Binding,
+) -> Result<bool, AllocError>
+    ensures { IfOk result (λ yes. yes
+        ≡ granting.binding_grants p.now.lists who.now permission.now resource.now now binding.now) }
+{
+    if !p.roles.holds(&binding.role, permission) {
+        return Ok(false);
+    }
+    if !has_member(binding.members.as_slice(), who) {
+        return Ok(false);
+    }
+    condition_holds(alloc, binding.condition.as_ref(), resource, now)
 }
 
 fn has_member(members: &[Member], who: &Who) -> bool
     ensures { result ≡ list_any (λ member. member_names member who.now) members.now }
 {
     members.iter().any(|member| names_who(member, who))
-}
-
-fn policy_grants(
-    p: &Policies,
-    who: &Who,
-    permission: &Permission,
-    resource: &Resource,
-    policy: &(Text, Items<Binding>),
-) -> bool
-    ensures { result ≡ granting.policy_grants p.now.lists who.now permission.now resource.now policy.now }
-{
-    covers_text(policy.0.as_str(), resource.as_str())
-        && some_binding_grants(p, who, permission, policy.1.as_slice())
-}
-
-fn some_binding_grants(
-    p: &Policies,
-    who: &Who,
-    permission: &Permission,
-    bindings: &[Binding],
-) -> bool
-    ensures { result ≡ list_any (granting.binding_grants p.now.lists who.now permission.now) bindings.now }
-{
-    bindings
-        .iter()
-        .any(|binding| binding_grants(p, who, permission, binding))
 }
 
 /// Whether what the word stands for has the permission.

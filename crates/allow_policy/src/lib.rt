@@ -2,6 +2,7 @@
 #![tactic(auto)]
 
 mod binding;
+mod condition;
 mod granting;
 mod limits;
 mod policies;
@@ -12,6 +13,7 @@ mod room;
 mod scope_set;
 
 pub use binding::Binding;
+pub use condition::{condition_holds, condition_names};
 pub use granting::{granted, knows_scope, scope_allows};
 pub use policies::Policies;
 pub use policy_row::PolicyRow;

@@ -15,10 +15,14 @@ pub struct Policies {
 }
 
 impl Model for Policies {
+    ghost use Rattle.std.specs.Coded.{codes};
     ghost use Rattle.std.specs.Prelude.{min};
+    ghost use Rattle.cel_values.specs.contracts.expr.Expr as tree;
     ghost use Rattle.allow_policy.specs.Lists.{Held};
 
     ghost Value = { Held };
+
+    ghost coded = { Prim.hlevel (codes, tree.the_row.coded) };
 
     ghost view = { λ p. record {
       lists = record { roles = p.roles.rows; scopes = p.scopes.rows; policies = p.policies.rows };

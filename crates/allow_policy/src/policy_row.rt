@@ -9,10 +9,14 @@ pub struct PolicyRow {
 }
 
 impl Model for PolicyRow {
+    ghost use Rattle.std.specs.Coded.{codes};
     ghost use Rattle.std.specs.Prelude.{List};
+    ghost use Rattle.cel_values.specs.contracts.expr.Expr as tree;
     ghost use Rattle.allow_policy.specs.declared.binding.Binding.{Binding};
 
     ghost Value = { List Binding };
+
+    ghost coded = { Prim.hlevel (codes, tree.the_row.coded) };
 
     ghost view = { λ row. row.bindings };
 }

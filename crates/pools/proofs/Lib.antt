@@ -3,3 +3,4 @@ pub mod Attributes
 pub mod MappedParts
 pub mod PassedRules
 pub mod AdmittedClaims
+pub mod FormedProviders

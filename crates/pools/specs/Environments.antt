@@ -1,20 +1,14 @@
 -- What the expressions of a provider see.
 use Rattle.std.specs.Prelude.{ℕ, List, [], ◌∷◌, ◌++◌, map, codes}
-use Rattle.cel_values.specs.declared.env.Binding.{Binding}
 use Rattle.cel_values.specs.declared.value.Value.{Value}
 use Rattle.cel_values.specs.declared.value.Value.TheViews as made
 use Rattle.cel_values.specs.declared.value.MapEntry.{MapEntry}
 use Rattle.cel_eval.specs.Denotation.{Env}
+use Rattle.cel_expression.specs.Environments.{bound, entry, declared_map}
+use Rattle.cel_types.specs.declared.cel_type.CelType.{CelType}
+use Rattle.cel_types.specs.declared.cel_type.Declaration.{Declaration}
 use Rattle.wif_claims.specs.declared.claims.Claims.{Claims}
 use Rattle.iam_names.specs.declared.identity.Identity.{Identity}
-
--- a name that stands for a value
-abbrev pub bound : List ℕ → Value → Binding
-bound name value = record { name = name; value = value }
-
--- an entry of a map
-abbrev pub entry : List ℕ → Value → MapEntry
-entry key value = record { key = key; value = value }
 
 -- a mapping sees the claims as `assertion`
 abbrev pub mapping_env : Claims → Env
@@ -43,3 +37,17 @@ identity_env who = bound (codes "google") (google_of who) ∷ bound (codes "attr
 -- a condition sees the claims, and the identity that they are mapped to as `google` and `attribute`
 abbrev pub condition_env : Claims → Identity → Env
 condition_env claims who = mapping_env claims ++ identity_env who
+
+-- ---- the types of what they see
+
+-- a mapping sees `assertion` as a map of what isn't known
+abbrev pub mapping_names : List Declaration
+mapping_names = declared_map (codes "assertion") CelType.Dyn ∷ []
+
+-- `google` as a map of what isn't known, and `attribute` as one of texts
+abbrev pub identity_names : List Declaration
+identity_names = declared_map (codes "google") CelType.Dyn ∷ declared_map (codes "attribute") CelType.Text ∷ []
+
+-- a condition sees both
+abbrev pub condition_names : List Declaration
+condition_names = mapping_names ++ identity_names

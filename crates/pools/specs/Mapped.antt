@@ -1,5 +1,7 @@
 -- The identity that a mapping gives.
-use Rattle.std.specs.Prelude.{ℕ, List, [], ◌∷◌, Option, None, Some, option_map, Result, Ok, Err, map}
+use Rattle.std.specs.Prelude.{ℕ, List, [], ◌∷◌, length, Bool, ◌&&◌, nat_lt, Option, None, Some, option_map, Result, Ok, Err, map}
+use Rattle.std.specs.Str.{is_utf8}
+use Rattle.base_types.specs.Forms.{passing}
 use Rattle.base_types.specs.Steps.{◌>>=◌, needed}
 use Rattle.cel_values.specs.declared.value.Value.{Value, out-Value}
 use Rattle.cel_values.specs.declared.value.Value.TheOpen.{Value-F}
@@ -13,10 +15,13 @@ use Rattle.pools.specs.declared.mapping.Mapping.{Mapping}
 
 -- ---- texts
 
+-- UTF-8 that isn't empty
+abbrev pub is_text : List ℕ → Bool
+is_text bytes = nat_lt 0 (length bytes) && is_utf8 bytes
+
 -- a text that isn't empty
 abbrev pub text_of_shape : Shape → Option (List ℕ)
-text_of_shape (Value-F.Text []) = None
-text_of_shape (Value-F.Text (byte ∷ bytes)) = Some (byte ∷ bytes)
+text_of_shape (Value-F.Text bytes) = passing is_text bytes
 text_of_shape _ = None
 
 -- the same of a value

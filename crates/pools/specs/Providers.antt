@@ -1,11 +1,16 @@
 -- A provider of subject tokens: whom it vouches for, and how its claims become a principal.
-use Rattle.std.specs.Prelude.{ℕ, List, [], ◌∷◌, ◌++◌, Bool, ◌||◌, Option, codes}
-use Rattle.std.specs.List.{list_any}
+use Rattle.std.specs.Prelude.{◌≡◌, ℕ, List, [], ◌∷◌, ◌++◌, Bool, true, false, ◌||◌, Option, None, codes}
+use Rattle.std.specs.List.{list_all, list_any}
 use Rattle.std.specs.Str.{bytes_eq}
 use Rattle.iam_names.specs.declared.audience.Audience.{Audience}
-use Rattle.iam_names.specs.Audience.{audience_text}
+use Rattle.base_types.specs.Named.{InOrder}
+use Rattle.iam_names.specs.Audience.{audience_text, is_audience}
+use Rattle.iam_names.specs.Forms.{is_attribute_name}
+use Rattle.cel_values.specs.declared.expr.Expr.{Expr}
+use Rattle.cel_values.specs.declared.expr.Expr.TheViews as expr
 use Rattle.cel_expression.specs.declared.expression.Expression.{Expression}
 use Rattle.pools.specs.declared.mapping.Mapping.{Mapping}
+use Rattle.pools.specs.declared.provider.TokenIssuer.{TokenIssuer}
 
 -- What contracts see of a provider.
 pub record ProviderView : Type 0 where
@@ -43,3 +48,27 @@ is_acceptable provider audience = acceptable provider.audiences
 -- some audience of these is accepted
 abbrev pub accepts : ProviderView → List (List ℕ) → Bool
 accepts provider audiences = list_any (is_acceptable provider) audiences
+
+-- The provider's name and the names of its attributes have their forms, and the attributes stand in byte order.
+pub record IsFormed (provider : ProviderView) : Type 0 where
+  pub name : is_audience provider.name ≡ true
+  pub attributes : list_all (λ row. is_attribute_name row.0) provider.mapping.attributes ≡ true
+  pub rising : InOrder provider.mapping.attributes
+
+-- ---- the provider that is there from the start
+
+-- the claim `sub` of the claims
+abbrev pub subject_claim : Expression
+subject_claim = record { text = codes "assertion.sub"; tree = expr.Select (Expr.Name (codes "assertion")) (codes "sub") }
+
+-- the claim `sub` is the subject, and nothing else is mapped
+abbrev pub of_subject : Audience → TokenIssuer → ProviderView
+of_subject name issuer = record {
+  name = name;
+  issuer = issuer.name;
+  key = issuer.key;
+  audiences = issuer.audiences;
+  mapping = record { subject = subject_claim; groups = None; attributes = [] };
+  condition = None;
+  disabled = false;
+}

@@ -3,8 +3,9 @@ ghost use Rattle.cel_values.specs.declared.value.Value.{Value as Datum};
 ghost use Rattle.cel_values.specs.declared.value.Value.TheViews as made;
 ghost use Rattle.pools.specs.Environments as seen;
 
-use base_types::{Items, Text, TextMap, both, kept};
-use cel_values::{Binding, Env, MapEntry, Value, copy};
+use base_types::{Items, Text, TextMap, kept};
+use cel_expression::{bind, put_entry};
+use cel_values::{Env, MapEntry, Value, copy};
 use iam_names::Identity;
 use std::alloc::{AllocError, Global};
 use wif_claims::Claims;
@@ -33,13 +34,6 @@ pub(crate) fn bind_identity(
     bind(alloc, env, "attribute", attributes)
 }
 
-fn bind(alloc: Global, env: &mut Env, name: &str, value: Value) -> Result<(), AllocError>
-    ensures { OnOk result (env.new ≡ env.old ++ seen.bound name.now value ∷ []) }
-{
-    let (name, value) = both(Text::copy_of(alloc, name), Ok(value))?;
-    env.push(Binding { name, value })
-}
-
 // The groups and the subject.
 fn google_of(alloc: Global, identity: &Identity) -> Result<Value, AllocError>
     ensures { IfOk result (λ value. value ≡ seen.google_of identity.now) }
@@ -57,9 +51,9 @@ fn put_google(
     ensures { OnOk result (entries.new ≡ entries.old ++ seen.google_entries identity.now) }
 {
     let groups = texts_of(alloc, identity.groups.as_slice())?;
-    put(alloc, entries, "groups", Value::List(groups))?;
+    put_entry(alloc, entries, "groups", Value::List(groups))?;
     let subject = identity.subject.copy(alloc)?;
-    put(alloc, entries, "subject", Value::Text(subject))
+    put_entry(alloc, entries, "subject", Value::Text(subject))
 }
 
 fn texts_of(alloc: Global, texts: &[Text]) -> Result<Items<Value>, AllocError>
@@ -89,19 +83,7 @@ fn put_attributes(
 {
     for (name, text) in attributes.iter() {
         let text = text.copy(alloc)?;
-        put(alloc, entries, name.as_str(), Value::Text(text))?;
+        put_entry(alloc, entries, name.as_str(), Value::Text(text))?;
     }
     Ok(())
-}
-
-fn put(
-    alloc: Global,
-    entries: &mut Items<MapEntry>,
-    key: &str,
-    value: Value,
-) -> Result<(), AllocError>
-    ensures { OnOk result (entries.new ≡ entries.old ++ seen.entry key.now value ∷ []) }
-{
-    let (key, value) = both(Text::copy_of(alloc, key), Ok(value))?;
-    entries.push(MapEntry { key, value })
 }

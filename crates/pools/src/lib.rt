@@ -8,6 +8,7 @@ mod fault;
 mod laws;
 mod lengths;
 mod mapping;
+mod names;
 mod provider;
 mod texts;
 
@@ -15,4 +16,5 @@ pub use admission::admit;
 pub use fault::MapFault;
 pub use laws::admitted_claims_pass_each_rule;
 pub use mapping::Mapping;
+pub use names::{condition_names, mapping_names};
 pub use provider::{Provider, TokenIssuer};

@@ -1,4 +1,5 @@
 ghost use Rattle.std.specs.Prelude.{◌≡◌, IfOk, map, option_map};
+ghost use Rattle.base_types.specs.Forms.{passing};
 ghost use Rattle.cel_values.specs.declared.value.Value.{out-Value};
 ghost use Rattle.cel_eval.specs.Denotation.{denotation};
 ghost use Rattle.pools.specs.Mapped as meant;
@@ -73,12 +74,18 @@ fn texts_in(alloc: Global, values: &[Value]) -> Result<Option<Items<Text>>, Allo
     Ok(Some(texts))
 }
 
-// A text that isn't empty.
 fn text_in(value: &Value) -> Option<&str>
     ensures { option_map (λ text. text.now) result ≡ meant.text_of_value value.now }
 {
     match value {
-        Value::Text(text) if !text.as_str().is_empty() => Some(text.as_str()),
+        Value::Text(text) => filled(text.as_str()),
         _ => None,
     }
+}
+
+// A text that isn't empty.
+fn filled(text: &str) -> Option<&str>
+    ensures { option_map (λ text. text.now) result ≡ passing meant.is_text text.now }
+{
+    if text.is_empty() { None } else { Some(text) }
 }

@@ -1,4 +1,7 @@
+use crate::ConfigError;
 use base_types::Bytes;
+use base64::DecodeAllocError;
+use base64::engine::general_purpose::URL_SAFE_NO_PAD;
 use std::alloc::{AllocError, Global};
 use std::marker::Model;
 
@@ -21,6 +24,7 @@ impl Model for Key {
 impl Key {
     ghost use Rattle.std.specs.Prelude.{◌≡◌, ◌≤◌, IfOk, length};
     ghost use Rattle.base_types.specs.Forms.{has_size, passing};
+    ghost use Rattle.service_config.specs.Configuration.{Reads, key_of};
 
     /// The key of these bytes, where they are so many.
     pub fn new(bytes: Bytes) -> Option<Self>
@@ -31,6 +35,20 @@ impl Key {
             Some(Key { bytes })
         } else {
             None
+        }
+    }
+
+    /// The key of a text in base64url without padding (RFC 4648, section 5), read strictly.
+    pub fn read(alloc: Global, text: &str) -> Result<Self, ConfigError>
+        ensures { Reads (λ key. key) result (key_of text.now) }
+    {
+        match URL_SAFE_NO_PAD.decode(alloc, text.as_bytes()) {
+            Ok(key) => match Key::new(Bytes::new(key)) {
+                Some(key) => Ok(key),
+                None => Err(ConfigError::Form),
+            },
+            Err(DecodeAllocError::OutOfMemory) => Err(ConfigError::Memory),
+            Err(_) => Err(ConfigError::Form),
         }
     }
 

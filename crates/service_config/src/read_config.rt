@@ -8,9 +8,7 @@ ghost use Rattle.iam_names.specs.Forms.{is_id};
 ghost use Rattle.base_types.specs.Forms.{passing};
 
 use crate::{Config, ConfigError, Key, StartProvider};
-use base_types::{Bytes, Text, has_size, is_visible_text};
-use base64::DecodeAllocError;
-use base64::engine::general_purpose::URL_SAFE_NO_PAD;
+use base_types::{Text, has_size, is_visible_text};
 use iam_names::{NameError, PoolName, ProviderId};
 use json_text::{DocumentFault, read_document, text_at};
 use serde_json::Value;
@@ -219,19 +217,5 @@ fn is_secret(text: &str) -> bool
 fn key_at(alloc: Global, json: &Value) -> Result<Key, ConfigError>
     ensures { Reads (λ key. key) result (option_and_then key_of (text_member (codes "key") (view json.now))) }
 {
-    decoded_key(alloc, member(json, "key")?)
-}
-
-// Base64url without padding (RFC 4648, section 5), read strictly.
-fn decoded_key(alloc: Global, text: &str) -> Result<Key, ConfigError>
-    ensures { Reads (λ key. key) result (key_of text.now) }
-{
-    match URL_SAFE_NO_PAD.decode(alloc, text.as_bytes()) {
-        Ok(key) => match Key::new(Bytes::new(key)) {
-            Some(key) => Ok(key),
-            None => Err(ConfigError::Form),
-        },
-        Err(DecodeAllocError::OutOfMemory) => Err(ConfigError::Memory),
-        Err(_) => Err(ConfigError::Form),
-    }
+    Key::read(alloc, member(json, "key")?)
 }

@@ -2,7 +2,7 @@
 use Rattle.std.proofs.Common.{◌≡◌, ℕ, ◌<◌, ◌≤◌, List, [], ◌∷◌, ◌++◌, true, length, take, drop, get_or, set, refl, drop-cons, ◌∙◌}
 use Rattle.std.proofs.lemmas.List.{set_split, take_all, drop_all}
 use Rattle.iam_names.specs.PoolName.{same_pool}
-use Rattle.service_view.specs.declared.pools.Pool.{Pool}
+use Rattle.service_view.specs.declared.pool.Pool.{Pool}
 use Rattle.service_view.specs.Pools.{put_pool}
 
 abbrev PutFrom : Pool → List Pool → ℕ → Type 0

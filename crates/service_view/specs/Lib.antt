@@ -1,3 +1,4 @@
 pub mod Pools
 pub mod View
+pub mod Commands
 pub mod Puts

@@ -2,7 +2,7 @@
 use Rattle.std.specs.Prelude.{ℕ, List, [], ◌∷◌, Bool, Option, None, Some, if◌then◌else◌}
 use Rattle.iam_names.specs.PoolName.{same_pool}
 use Rattle.iam_names.specs.declared.pool_name.PoolName.{PoolName}
-use Rattle.service_view.specs.declared.pools.Pool.{Pool}
+use Rattle.service_view.specs.declared.pool.Pool.{Pool}
 
 -- the pools, and for how many more names there is memory
 pub record Rows : Type 0 where

@@ -1,9 +1,9 @@
-use crate::copies::{copy_bindings, copy_names, copy_set};
-use crate::pools::Pool;
+use crate::pool::Pool;
+use crate::provider_row::ProviderRow;
 use allow_policy::{Binding, PolicyRow, ScopeSet};
 use base_types::Items;
 use iam_names::{Account, Permission, PoolName, Resource, Role, ScopeWord};
-use std::alloc::{AllocError, Global};
+use pools::Provider;
 
 /// What an administrator asks to put, in place of what stands under the name.
 #[derive(Debug, Drop)]
@@ -13,6 +13,8 @@ pub enum Command {
         pool: PoolName,
         disabled: bool,
     },
+    /// A provider of a pool's subject tokens.
+    Provider(Provider),
     /// A service account, and whether it is disabled.
     Account {
         account: Account,
@@ -39,6 +41,7 @@ pub enum Command {
 #[derive(Debug, Drop)]
 pub enum Ready {
     Pool(Pool),
+    Provider(ProviderRow),
     Account {
         account: Account,
         disabled: bool,
@@ -58,33 +61,19 @@ pub enum Ready {
 }
 
 impl Command {
-    ghost use Rattle.std.specs.Prelude.{◌≡◌, IfOk};
+    ghost use Rattle.service_view.specs.Commands.{IsCommand};
 
-    /// The same command once more.
-    pub fn copy(&self, alloc: Global) -> Result<Self, AllocError>
-        ensures { IfOk result (λ copy. copy ≡ self.now) }
+    /// A law: a command has its form by its type.
+    pub fn has_its_form(&self)
+        ensures { IsCommand self.now }
     {
         match self {
-            Command::Pool { pool, disabled } => Ok(Command::Pool {
-                pool: pool.copy(alloc)?,
-                disabled: *disabled,
-            }),
-            Command::Account { account, disabled } => Ok(Command::Account {
-                account: account.copy(alloc)?,
-                disabled: *disabled,
-            }),
-            Command::Role { role, permissions } => Ok(Command::Role {
-                role: role.copy(alloc)?,
-                permissions: copy_names(alloc, permissions.as_slice())?,
-            }),
-            Command::Scope { word, permissions } => Ok(Command::Scope {
-                word: word.copy(alloc)?,
-                permissions: copy_set(alloc, permissions)?,
-            }),
-            Command::Policy { resource, bindings } => Ok(Command::Policy {
-                resource: resource.copy(alloc)?,
-                bindings: copy_bindings(alloc, bindings.as_slice())?,
-            }),
+            Command::Provider(provider) => provider.has_its_form(),
+            Command::Pool { .. }
+            | Command::Account { .. }
+            | Command::Role { .. }
+            | Command::Scope { .. }
+            | Command::Policy { .. } => {}
         }
     }
 }

@@ -1,14 +1,17 @@
-//! What administrators' commands have put: pools, service accounts, roles, scope words and policies.
+//! What administrators' commands have put: pools, providers, service accounts, roles, scope words and policies.
 #![tactic(auto)]
 
 mod command;
-mod copies;
 mod limits;
-mod pools;
+mod pool;
+mod provider_row;
 mod puts;
+mod ready_fault;
 mod view;
 
 pub use command::{Command, Ready};
-pub use pools::{Pool, Pools};
+pub use pool::{Pool, Pools};
+pub use provider_row::ProviderRow;
 pub use puts::{place, ready};
+pub use ready_fault::ReadyFault;
 pub use view::{View, cloud_platform};

@@ -4,7 +4,7 @@ use Rattle.base_types.proofs.NamedLemmas.{when_ok}
 use Rattle.iam_names.specs.PoolName.{same_pool}
 use Rattle.service_view.specs.Pools.{put_pool}
 use Rattle.service_view.proofs.PoolLemmas.{put-hit, put-all}
-use Rattle.service_view.proofs.pools.Pools.place.Goals as goal
+use Rattle.service_view.proofs.pool.Pools.place.Goals as goal
 
 pub returns-then-eq : goal.returns-then-eq
 returns-then-eq c =

@@ -1,7 +1,7 @@
 use Rattle.std.proofs.Common.{◌≡◌, ◌++◌, ◌-◌, take, drop, vec_len}
 use Rattle.std.specs.Vec.{vec_capacity}
 use Rattle.service_view.specs.Pools.{put_pool}
-use Rattle.service_view.proofs.pools.Pools.place.Given as goal
+use Rattle.service_view.proofs.pool.Pools.place.Given as goal
 
 abbrev pub invariant-loop-index : goal.invariant-loop-index
 invariant-loop-index l =
