@@ -1,0 +1,2 @@
+pub mod AllowedRules
+pub mod Readings

@@ -1,0 +1,4 @@
+pub mod Allowed
+pub mod Allowing
+pub mod Answers
+pub mod Boundaries
