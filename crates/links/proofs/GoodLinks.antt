@@ -7,7 +7,6 @@ use Rattle.json.proofs.Printed.Utf8.{are_ascii, IsUtf8-are_ascii}
 use Rattle.base_types.specs.Forms.{has_size}
 use Rattle.iam_names.specs.Forms.{is_digit, begins_with, is_id_byte, is_plain_byte, is_project, is_id, is_scope_word}
 use Rattle.iam_names.specs.PoolName.{is_pool_name}
-use Rattle.iam_names.specs.declared.identity.Identity.{Identity}
 use Rattle.iam_names.specs.declared.pool_name.PoolName.{PoolName}
 use Rattle.iam_names.specs.declared.who.Who.{Who}
 use Rattle.iam_names.specs.declared.who.Who.TheVariants.{Outside, Account}
@@ -23,7 +22,7 @@ both : (a b : Bool) → (a && b) ≡ true → (a ≡ true) × (b ≡ true)
 both true b h = (refl, h)
 both false b h = cc
 
-all_ascii : (test : ℕ → Bool) → ((byte : ℕ) → test byte ≡ true → nat_lt byte 128 ≡ true) → (text : List ℕ) → list_all test text ≡ true → are_ascii text ≡ true
+pub all_ascii : (test : ℕ → Bool) → ((byte : ℕ) → test byte ≡ true → nat_lt byte 128 ≡ true) → (text : List ℕ) → list_all test text ≡ true → are_ascii text ≡ true
 all_ascii test low [] all = refl
 all_ascii test low (byte ∷ text) all =
     let parts = both (test byte) (list_all test text) all in

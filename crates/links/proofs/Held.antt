@@ -1,7 +1,7 @@
 -- What a state holds of its links stays right when a link comes.
-use Rattle.std.proofs.Common.{◌≡◌, ◌+◌, ◌<◌, ◌≤◌, ℕ, zero, suc, List, [], ◌∷◌, ◌++◌, length, map, refl, sym, ◌∙◌, ap, subst, arith, length-append, Option, None, Some}
+use Rattle.std.proofs.Common.{◌≡◌, ◌<◌, ◌≤◌, ℕ, zero, suc, List, [], ◌∷◌, ◌++◌, length, map, refl, sym, ◌∙◌, ap, subst, arith, Option, None, Some}
 use Rattle.std.proofs.lemmas.Bool.Decides.{nat_tests}
-use Rattle.std.specs.Prelude.{Bool, true, false, ◌&&◌, nat_lt, slice_get, option_map}
+use Rattle.std.specs.Prelude.{true, false, ◌&&◌, nat_lt, slice_get, option_map}
 use Rattle.std.specs.List.{list_all}
 use Rattle.hmac_jws.specs.Compact.{compact}
 use Rattle.access_token.specs.declared.facts.Facts.{Facts}

@@ -1,6 +1,6 @@
 -- Where the link of a token is found.
 use Rattle.std.proofs.Common.{◌≡◌, ◌<◌, ◌≤◌, ◌^◌, ℕ, zero, suc, List, [], ◌∷◌, length, ◌⊎◌, inl, inr, true, false, refl, sym, ◌∙◌, ap, subst, arith}
-use Rattle.std.specs.Prelude.{Option, None, Some, option_and_then, slice_get, codes, IsUtf8}
+use Rattle.std.specs.Prelude.{Option, None, Some, option_and_then, slice_get, codes}
 use Rattle.std.specs.Fmt.{decimal}
 use Rattle.std.specs.List.{AllByRecursion}
 use Rattle.std.specs.Str.{bytes_eq}

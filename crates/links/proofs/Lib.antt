@@ -11,4 +11,3 @@ mod Preparing
 pub mod Replays
 pub mod Roots
 pub mod SourceForms
-mod Subjects

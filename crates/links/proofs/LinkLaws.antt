@@ -1,48 +1,49 @@
 -- The laws of links and their tokens.
-use Rattle.std.proofs.Common.{◌≡◌, ◌<◌, ◌≤◌, ◌^◌, ◌+◌, ℕ, zero, suc, Bool, true, false, not, List, [], ◌∷◌, ◌++◌, length, refl, sym, ◌∙◌, ap, subst, arith, append_assoc, append-nil, Option, None, Some}
-use Rattle.std.specs.Prelude.{Result, Ok, Err, slice_get, if◌then◌else◌, option_map, option_and_then, codes}
+use Rattle.std.proofs.Common.{◌≡◌, ◌<◌, ◌≤◌, ◌^◌, ℕ, zero, suc, Bool, true, false, not, List, [], ◌∷◌, ◌++◌, length, refl, sym, ◌∙◌, ap, subst, arith, append_assoc, append-nil, Option, None, Some}
+use Rattle.std.specs.Prelude.{Result, Ok, Err, slice_get, option_map, option_and_then, codes}
+use Rattle.std.specs.Result.{result_ok}
 use Rattle.std.specs.Fmt.{decimal}
 use Rattle.std.proofs.lemmas.Fmt.{decimal_injective}
-use Rattle.std.specs.List.{list_all}
-use Rattle.std.specs.Str.{bytes_eq}
 use Rattle.std.proofs.lemmas.Slice.Eq.{bytes_eq-Decides}
 use Rattle.std.proofs.lemmas.Option.{slice_get_within}
+use Rattle.base_types.specs.Named.{value_at}
 use Rattle.base_types.specs.Rules.{fails_if, first_of}
-use Rattle.base_types.specs.Steps.{◌>>=◌}
+use Rattle.base_types.specs.Steps.{◌>>=◌, needed}
 use Rattle.base64.specs.GeneralPurpose.{IsBytes}
 use Rattle.hmac_jws.proofs.Issued.{payload_of-compact}
 use Rattle.hmac_jws.specs.Compact.{compact}
 use Rattle.hmac_jws.specs.Verified.{first_jws_fault, payload_of, MacGood}
 use Rattle.hmac_jws.specs.declared.fault.JwsFault.{JwsFault}
 use Rattle.iam_names.specs.Audience.{audience_text}
+use Rattle.iam_names.specs.declared.identity.Identity.{Identity}
+use Rattle.iam_names.specs.declared.who.Who.{Who}
+use Rattle.iam_names.specs.declared.who.Who.TheVariants.{Outside}
 use Rattle.json_text.specs.Document.{document, text_at}
 use Rattle.access_token.proofs.ExactTexts.{IsBytes-payload_text, jti-payload_text}
 use Rattle.access_token.specs.Payload.{payload_text}
 use Rattle.wif_claims.specs.declared.claims.Claims.{Claims}
 use Rattle.wif_claims.specs.declared.claims.ClaimFault.{ClaimFault}
-use Rattle.wif_claims.specs.declared.claims.When.{When}
-use Rattle.wif_claims.specs.declared.claims.When.TheVariants.{Live, Expired, NotYet}
 use Rattle.wif_claims.specs.Payload.{claims_of}
-use Rattle.wif_claims.specs.Timing.{timing_of}
+use Rattle.pools.specs.Admission.{identity_of}
+use Rattle.pools.specs.Admitted.{IsAdmitted}
+use Rattle.pools.specs.Providers.{ProviderView}
+use Rattle.pools.specs.declared.fault.MapFault.{MapFault}
+use Rattle.pools.proofs.AdmittedClaims.{rules-passed}
 use Rattle.service_config.specs.declared.config.Config.{Config}
-use Rattle.service_config.specs.declared.config.StartProvider.{StartProvider}
-use Rattle.service_config.specs.Configuration.{provider_name}
 use Rattle.service_config.specs.Formed.{IsFormedConfig}
-use Rattle.service_view.specs.View.{pool_enabled}
 use Rattle.links.specs.declared.entry.Entry.{Entry}
 use Rattle.links.specs.declared.entry.Entry.TheVariants as entry
 use Rattle.links.specs.declared.entry.Exchange.{Exchange}
 use Rattle.links.specs.declared.fault.RuleCode.{RuleCode}
-use Rattle.links.specs.declared.fault.RuleCode.TheVariants.{E14, E15, E18}
-use Rattle.links.specs.declared.fault.MapFault.TheVariants.{Issuer, Audience}
+use Rattle.links.specs.declared.fault.RuleCode.TheVariants.{E14, E15}
 use Rattle.links.specs.declared.source.Source.{Source}
 use Rattle.links.specs.Chain.{Link, Chain, chains_of, chain_at}
 use Rattle.links.specs.Facts.{facts_of}
 use Rattle.links.specs.Issued.{issued_link, is_text_of}
 use Rattle.links.specs.Licence.{first_unlicensed, fault_of, Lawful, Licensed}
 use Rattle.links.specs.Shown.{WasShown}
-use Rattle.links.specs.Sources.{accepts, claimed_by, first_admission_fault, opened, opened_by, passed, source_of, source_of_claims, subject_by, subject_claim, timing_fault, who_of_claims}
-use Rattle.links.specs.State.{Content, after, chain, content_of, link_of, named, source_at, start_of, state_after, token_text, with_link}
+use Rattle.links.specs.Sources.{claimed_by, opened, opened_by, outside_by, passed, source_by, source_of, source_of_claims, who_of_claims}
+use Rattle.links.specs.State.{Content, after, chain, content_of, federated_link, link_of, named, provider_enabled, source_at, start_of, state_after, token_text, with_link}
 use Rattle.links.proofs.Chains.{chain_stays}
 use Rattle.links.proofs.Issuing.{Tells, chain-there, good_at, number_is, some-told}
 use Rattle.links.proofs.GoodLinks.{exact-good}
@@ -124,9 +125,6 @@ token_follows config journal more found =
 
 -- ---- what was shown
 
-abbrev Passed : StartProvider → Content → Exchange → Type 0
-Passed provider c x = (s : Source) × (source_of provider x.token x.at ≡ Ok s)
-
 -- each step that gave something
 gave : {X Y E : Type 0} (r : Result X E) (next : X → Result Y E) (y : Y) → (r >>= next) ≡ Ok y → (x : X) × (r ≡ Ok x) × (next x ≡ Ok y)
 gave (Ok x) next y is = (x, refl, is)
@@ -146,11 +144,6 @@ first_none (Some r) b c is = absurd (cc is)
 first_none None (Some r) c is = absurd (cc is)
 first_none None None (Some r) is = absurd (cc is)
 
-timed : (w : When) → timing_fault w ≡ None → w ≡ Live
-timed Live is = refl
-timed Expired is = absurd (cc is)
-timed NotYet is = absurd (cc is)
-
 opened_well : (fault : Option JwsFault) (payload found : List ℕ) → opened_by fault payload ≡ Ok found → (fault ≡ None) × (payload ≡ found)
 opened_well None payload found is = (refl, cc is)
 opened_well (Some fault) payload found is = absurd (cc is)
@@ -159,63 +152,63 @@ claimed_well : (r : Result Claims ClaimFault) (claims : Claims) → claimed_by r
 claimed_well (Ok claims) found is = let same : claims ≡ found = cc is in ap (λ (c : Claims). Ok c) same
 claimed_well (Err fault) found is = absurd (cc is)
 
+from_payload : (token payload : List ℕ) (claims : Claims) → payload_of token ≡ payload → claims_of payload ≡ Ok claims → claims_of (payload_of token) ≡ Ok claims
+from_payload token payload claims same is = ap claims_of same ∙ is
+
+outside_well : (provider : ProviderView) (r : Result Identity MapFault) (who : Who) → outside_by provider r ≡ Ok who
+    → (identity : Identity) × (r ≡ Ok identity) × (Outside provider.name.pool identity ≡ who)
+outside_well provider (Ok identity) who is = (identity, refl, cc is)
+outside_well provider (Err fault) who is = absurd (cc is)
+
+found_well : (found : Option ProviderView) (provider : ProviderView) → needed E14 found ≡ Ok provider → found ≡ Some provider
+found_well None provider is = absurd (cc is)
+found_well (Some p) provider is = let same : p ≡ provider = cc is in ap (λ (q : ProviderView). Some q) same
+
 -- what the rules of a provider say where they pass
-record Shown (provider : StartProvider) (token : List ℕ) (now : ℕ) : Type 0 where
+record Shown (provider : ProviderView) (token : List ℕ) (now : ℕ) (s : Source) : Type 0 where
   verified : MacGood provider.key token
   claims : Claims
   claimed : claims_of (payload_of token) ≡ Ok claims
-  issuer : bytes_eq claims.iss provider.issuer ≡ true
-  audience : accepts provider claims.aud ≡ true
-  live : timing_of claims now ≡ Live
+  identity : Identity
+  admitted : IsAdmitted provider claims now identity
+  source : s ≡ source_by claims (Outside provider.name.pool identity)
 
-shown_by : (provider : StartProvider) (token : List ℕ) (now : ℕ) (s : Source) → source_of provider token now ≡ Ok s → Shown provider token now
-unfolding source_of source_of_claims first_admission_fault
+shown_by : (provider : ProviderView) (token : List ℕ) (now : ℕ) (s : Source) → source_of provider token now ≡ Ok s → Shown provider token now s
+unfolding source_of source_of_claims
 shown_by provider token now s is =
     let verified = gave (opened provider.key token) _ s is in
     let good = opened_well (first_jws_fault provider.key token) (payload_of token) verified.0 verified.1 in
     let claimed = gave (claimed_by (claims_of verified.0)) _ s verified.2 in
     let claims = claimed.0 in
-    let who = gave (who_of_claims provider claims now) _ s claimed.2 in
-    let rules = passed_rules (first_admission_fault provider claims now) _ who.0 who.1 in
-    let each = first_none (fails_if (not (bytes_eq claims.iss provider.issuer)) (E18 Issuer)) (fails_if (not (accepts provider claims.aud)) (E18 Audience)) (timing_fault (timing_of claims now)) rules.0 in
+    let who = gave (who_of_claims provider claims now) (λ w. Ok (source_by claims w)) s claimed.2 in
+    let outside = outside_well provider (identity_of provider claims now) who.0 who.1 in
+    let source : source_by claims who.0 ≡ s = cc (who.2) in
     record {
       verified = good.0;
       claims = claims;
-      claimed = ap claims_of good.1 ∙ claimed_well (claims_of verified.0) claims claimed.1;
-      issuer = not_failing (bytes_eq claims.iss provider.issuer) (E18 Issuer) each.0;
-      audience = not_failing (accepts provider claims.aud) (E18 Audience) each.1;
-      live = timed (timing_of claims now) each.2;
+      claimed = from_payload token verified.0 claims good.1 (claimed_well (claims_of verified.0) claims claimed.1);
+      identity = outside.0;
+      admitted = rules-passed provider claims now outside.0 outside.1;
+      source = sym source ∙ ap (λ (w : Who). source_by claims w) (sym outside.2);
     }
 
-shown_under : (c : Content) (x : Exchange) (provider : StartProvider) (s : Source) → c.start ≡ Some provider
-    → bytes_eq (audience_text (provider_name provider)) (audience_text x.provider) ≡ true
-    → passed (fails_if (not (pool_enabled c.view provider.pool)) E15) (source_of provider x.token x.at) ≡ Ok s → WasShown c x
-shown_under c x provider s start named is =
-    let rules = passed_rules (fails_if (not (pool_enabled c.view provider.pool)) E15) (source_of provider x.token x.at) s is in
+source_shown : (c : Content) (x : Exchange) (s : Source) → source_at c x.provider x.token x.at ≡ Ok s → WasShown c x
+source_shown c x s is =
+    let named = gave (named c.view x.provider) (λ p. passed (fails_if (not (provider_enabled c.view p)) E15) (source_of p x.token x.at)) s is in
+    let provider = named.0 in
+    let rules = passed_rules (fails_if (not (provider_enabled c.view provider)) E15) (source_of provider x.token x.at) s named.2 in
     let shown = shown_by provider x.token x.at s rules.1 in
     record {
       provider = provider;
-      there = start;
-      named = named;
-      enabled = not_failing (pool_enabled c.view provider.pool) E15 rules.0;
+      there = found_well (value_at (audience_text x.provider) c.view.providers) provider named.1;
+      enabled = not_failing (provider_enabled c.view provider) E15 rules.0;
       verified = shown.verified;
       claims = shown.claims;
       claimed = shown.claimed;
-      issuer = shown.issuer;
-      audience = shown.audience;
-      live = shown.live;
+      identity = shown.identity;
+      admitted = shown.admitted;
+      link = ap (λ (r : Result Source RuleCode). option_map (federated_link x.scope x.at) (result_ok r)) is ∙ ap (λ (t : Source). Some (federated_link x.scope x.at t)) shown.source;
     }
-
-by_same : (c : Content) (x : Exchange) (provider : StartProvider) (same : Bool) (s : Source) → c.start ≡ Some provider
-    → bytes_eq (audience_text (provider_name provider)) (audience_text x.provider) ≡ same
-    → ((if same then Ok provider else Err E14) >>= (λ p. passed (fails_if (not (pool_enabled c.view p.pool)) E15) (source_of p x.token x.at))) ≡ Ok s → WasShown c x
-by_same c x provider true s start named is = shown_under c x provider s start named is
-by_same c x provider false s start named is = absurd (cc is)
-
-by_start : (c : Content) (x : Exchange) (start : Option StartProvider) (s : Source) → c.start ≡ start
-    → (named start x.provider >>= (λ p. passed (fails_if (not (pool_enabled c.view p.pool)) E15) (source_of p x.token x.at))) ≡ Ok s → WasShown c x
-by_start c x None s start is = absurd (cc is)
-by_start c x (Some provider) s start is = by_same c x provider (bytes_eq (audience_text (provider_name provider)) (audience_text x.provider)) s start refl is
 
 no_fault : (r : Result Source RuleCode) → fault_of r ≡ None → (s : Source) × (r ≡ Ok s)
 no_fault (Ok s) is = (s, refl)
@@ -226,4 +219,4 @@ unfolding first_unlicensed
 was_shown c x licensed =
     let rules = first_none _ (fault_of (source_at c x.provider x.token x.at)) _ licensed in
     let source = no_fault (source_at c x.provider x.token x.at) rules.1 in
-    by_start c x c.start source.0 refl source.1
+    source_shown c x source.0 source.1

@@ -1,12 +1,12 @@
 -- The name of a principal.
-use Rattle.std.proofs.Common.{◌≡◌, ℕ, Bool, true, false, ◌&&◌, List, ◌++◌, refl, ap, subst, ◌∙◌, sym, codes, Option}
+use Rattle.std.proofs.Common.{◌≡◌, Bool, true, false, ◌&&◌, ◌++◌, refl, ap, ◌∙◌, sym, codes, Option}
 use Rattle.std.specs.Str.{IsUtf8}
 use Rattle.std.proofs.lemmas.Bool.{and_from}
 use Rattle.std.proofs.lemmas.Str.{IsUtf8-append}
 use Rattle.json.proofs.Printed.Utf8.{IsUtf8-are_ascii}
 use Rattle.base_types.specs.Forms.{has_size}
 use Rattle.iam_names.specs.Forms.{passes}
-use Rattle.iam_names.specs.Member.{member_of, member_text, is_member}
+use Rattle.iam_names.specs.Member.{member_text, is_member}
 use Rattle.iam_names.specs.PoolName.{pool_path, is_pool_name}
 use Rattle.iam_names.specs.declared.member.Member.{Member}
 use Rattle.iam_names.specs.declared.member.Member.TheVariants as member

@@ -7,11 +7,12 @@ use Rattle.base_types.specs.Rules.{fails_if, first_of}
 use Rattle.base_types.specs.Steps.{◌>>=◌}
 use Rattle.hmac_jws.specs.Compact.{compact}
 use Rattle.access_token.specs.Payload.{payload_text}
-use Rattle.allow_policy.specs.declared.put_fault.PutFault.{PutFault}
 use Rattle.service_view.specs.declared.command.Command.{Command}
 use Rattle.service_view.specs.declared.command.Command.TheVariants as command
 use Rattle.service_view.specs.declared.command.Ready.{Ready}
-use Rattle.service_view.specs.Puts.{put_fault, made_ready, command_of}
+use Rattle.service_view.specs.declared.ready_fault.ReadyFault.{ReadyFault}
+use Rattle.service_view.specs.declared.ready_fault.ReadyFault.TheVariants as ready_faults
+use Rattle.service_view.specs.Puts.{RefusesBy, ready_fault, made_ready, command_of}
 use Rattle.links.specs.declared.entry.Entry.{Entry}
 use Rattle.links.specs.declared.entry.Entry.TheVariants as entry
 use Rattle.links.specs.declared.entry.Exchange.{Exchange}
@@ -25,7 +26,7 @@ use Rattle.links.specs.declared.recorded.RecordedLink.{RecordedLink}
 use Rattle.links.specs.declared.source.Source.{Source}
 use Rattle.links.specs.Chain.{Chain, Root}
 use Rattle.links.specs.Facts.{facts_of}
-use Rattle.links.specs.Licence.{first_unlicensed, fault_of, knows_word, is_long, rule_of, prepared_of, Licensed, Passes, Refuses}
+use Rattle.links.specs.Licence.{first_unlicensed, fault_of, knows_word, is_long, rule_of, refusal_of, prepared_of, Licensed, Passes, Refuses}
 use Rattle.links.specs.Prepared.{PreparedEntry, planned}
 use Rattle.links.specs.Recorded.{recorded}
 use Rattle.links.specs.Sources.{passed}
@@ -136,21 +137,25 @@ refused_before c x fault h =
 
 back : (command : Command) → command_of (made_ready command) ≡ command
 back (command.Pool pool disabled) = refl
+back (command.Provider provider) = refl
 back (command.Account account disabled) = refl
 back (command.Role role permissions) = refl
 back (command.Scope word permissions) = refl
 back (command.Policy resource bindings) = refl
 
-pub put_prepares : (c : Content) (command : Command) (ready : Ready) → ready ≡ made_ready command → put_fault c.view command ≡ None
+pub put_prepares : (c : Content) (command : Command) (ready : Ready) → ready ≡ made_ready command → ready_fault c.view command ≡ None
     → (planned (plan.Put ready) ≡ prepared_of c (entry.Put command)) × Licensed c (entry.Put command)
 unfolding first_unlicensed
 put_prepares c command ready is none =
     let same : command_of ready ≡ command = ap command_of is ∙ back command in
-    (ap (λ (k : Command). prepared_of c (entry.Put k)) same, ap (λ (f : Option PutFault). option_map rule_of f) none)
+    (ap (λ (k : Command). prepared_of c (entry.Put k)) same, ap (λ (f : Option ReadyFault). option_map rule_of f) none)
 
-pub put_refused : (c : Content) (command : Command) (fault : PutFault) → put_fault c.view command ≡ Some fault → first_unlicensed c (entry.Put command) ≡ Some (rule_of fault)
+pub put_refused : (c : Content) (command : Command) (fault : ReadyFault) → RefusesBy {X = Ready} (ready_fault c.view command) (Err fault) → Refuses (refusal_of fault) (first_unlicensed c (entry.Put command))
 unfolding first_unlicensed
-put_refused c command fault is = ap (λ (f : Option PutFault). option_map rule_of f) is
+put_refused c command ready_faults.UnknownPool is = ap (λ (f : Option ReadyFault). option_map rule_of f) is
+put_refused c command ready_faults.UnknownRole is = ap (λ (f : Option ReadyFault). option_map rule_of f) is
+put_refused c command ready_faults.Limit is = ap (λ (f : Option ReadyFault). option_map rule_of f) is
+put_refused c command ready_faults.Memory is = tt
 
 -- ---- room
 

@@ -1,6 +1,7 @@
 -- The forms that entries have.
-use Rattle.std.specs.Prelude.{◌≡◌, ◌≤◌, true, ⊤}
+use Rattle.std.specs.Prelude.{◌≡◌, ◌≤◌, true}
 use Rattle.access_token.specs.Forms.{are_words}
+use Rattle.service_view.specs.Commands.{IsCommand}
 use Rattle.links.specs.declared.entry.Entry.{Entry}
 use Rattle.links.specs.declared.entry.Entry.TheVariants.{Put, Federated}
 use Rattle.links.specs.declared.entry.Exchange.{Exchange}
@@ -10,7 +11,7 @@ pub record IsExchange (x : Exchange) : Type 0 where
   pub moment : x.at ≤ 200_000_000_000
   pub words : are_words x.scope ≡ true
 
--- a command has its form by its type
+-- a command, or an exchange, of its form
 abbrev pub IsEntry : Entry → Type 0
-IsEntry (Put command) = ⊤
+IsEntry (Put command) = IsCommand command
 IsEntry (Federated x) = IsExchange x

@@ -18,9 +18,9 @@ use Rattle.links.specs.Prepared.{PreparedEntry}
 use Rattle.links.specs.Recorded.{recorded}
 use Rattle.links.specs.State.{Content, start_of, content_of, made, source_at, token_text, after}
 use Rattle.allow_policy.specs.Granting.{knows_scope}
-use Rattle.allow_policy.specs.declared.put_fault.PutFault.{PutFault}
-use Rattle.allow_policy.specs.declared.put_fault.PutFault.TheVariants as put
-use Rattle.service_view.specs.Puts.{put_fault}
+use Rattle.service_view.specs.declared.ready_fault.ReadyFault.{ReadyFault}
+use Rattle.service_view.specs.declared.ready_fault.ReadyFault.TheVariants as ready
+use Rattle.service_view.specs.Puts.{ready_fault}
 
 -- the scope word is there
 abbrev pub knows_word : Content → List ℕ → Bool
@@ -37,14 +37,22 @@ is_long c None = true
 is_long c (Some chain) = nat_lt 8192 (length (token_text c chain))
 
 -- the code of what forbids a command
-abbrev pub rule_of : PutFault → RuleCode
-rule_of put.UnknownRole = A4
-rule_of put.Limit = A6
-rule_of put.Memory = A6
+abbrev pub rule_of : ReadyFault → RuleCode
+rule_of ready.UnknownPool = A4
+rule_of ready.UnknownRole = A4
+rule_of ready.Limit = A6
+rule_of ready.Memory = A6
+
+-- what is told of it
+abbrev pub refusal_of : ReadyFault → ApplyFault
+refusal_of ready.UnknownPool = Unlicensed A4
+refusal_of ready.UnknownRole = Unlicensed A4
+refusal_of ready.Limit = Unlicensed A6
+refusal_of ready.Memory = Memory
 
 -- The first rule that forbids recording the entry, or none.
 unfoldable pub first_unlicensed : Content → Entry → Option RuleCode
-first_unlicensed c (entry.Put command) = option_map rule_of (put_fault c.view command)
+first_unlicensed c (entry.Put command) = option_map rule_of (ready_fault c.view command)
 first_unlicensed c (entry.Federated x) = first_of (
     fails_if (not (list_all (knows_word c) x.scope)) E11 ∷
     fault_of (source_at c x.provider x.token x.at) ∷

@@ -5,10 +5,10 @@ use Rattle.hmac_jws.specs.declared.fault.JwsFault.{JwsFault}
 use Rattle.hmac_jws.specs.declared.fault.JwsFault.TheVariants as jws
 use Rattle.wif_claims.specs.declared.claims.ClaimFault.{ClaimFault}
 use Rattle.wif_claims.specs.declared.claims.ClaimFault.TheVariants as claim
-use Rattle.links.specs.declared.fault.MapFault.{MapFault}
-use Rattle.links.specs.declared.fault.MapFault.TheVariants as map
+use Rattle.pools.specs.declared.fault.MapFault.{MapFault}
+use Rattle.pools.specs.declared.fault.MapFault.TheVariants as map
 use Rattle.links.specs.declared.fault.RuleCode.{RuleCode}
-use Rattle.links.specs.declared.fault.RuleCode.TheVariants.{E11, E14, E15, E16, E17, E18, E19, E25, A4, A6}
+use Rattle.links.specs.declared.fault.RuleCode.TheVariants.{E11, E14, E15, E16, E17, E18, E19, E20, E25, A4, A6}
 
 -- the detail of a fault of a signature
 abbrev pub jws_text : JwsFault → List ℕ
@@ -39,7 +39,12 @@ map_text map.Audience = codes "Audience"
 map_text map.Expired = codes "Expired"
 map_text map.NotYet = codes "NotYet"
 map_text map.Subject = codes "Subject"
+map_text map.Groups = codes "Groups"
+map_text (map.Attribute name) = codes "Attribute " ++ name
 map_text (map.TooLong key) = codes "TooLong " ++ key
+map_text map.ConditionError = codes "ConditionError"
+map_text map.ConditionFalse = codes "ConditionFalse"
+map_text map.Memory = codes "Memory"
 
 -- the code of the rule, and the detail behind a space
 abbrev pub rule_text : RuleCode → List ℕ
@@ -50,6 +55,7 @@ rule_text (E16 fault) = codes "E16 " ++ jws_text fault
 rule_text (E17 fault) = codes "E17 " ++ claim_text fault
 rule_text (E18 fault) = codes "E18 " ++ map_text fault
 rule_text (E19 fault) = codes "E19 " ++ map_text fault
+rule_text (E20 fault) = codes "E20 " ++ map_text fault
 rule_text E25 = codes "E25"
 rule_text A4 = codes "A4"
 rule_text A6 = codes "A6"
@@ -65,4 +71,5 @@ word_of (E16 fault) = codes "invalid_request"
 word_of (E17 fault) = codes "invalid_request"
 word_of (E18 fault) = codes "invalid_request"
 word_of (E19 fault) = codes "invalid_request"
+word_of (E20 fault) = codes "invalid_request"
 word_of E25 = codes "invalid_request"

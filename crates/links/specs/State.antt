@@ -1,13 +1,14 @@
 -- The state that a journal's entries leave.
-use Rattle.std.specs.Prelude.{ℕ, ◌+◌, List, [], ◌∷◌, ◌++◌, Option, None, Some, option_map, not, Result, Ok, Err, if◌then◌else◌}
+use Rattle.std.specs.Prelude.{ℕ, ◌+◌, List, [], ◌∷◌, ◌++◌, Bool, not, ◌&&◌, Option, None, Some, option_map, Result}
 use Rattle.std.specs.Result.{result_ok}
-use Rattle.std.specs.Str.{bytes_eq}
+use Rattle.base_types.specs.Named.{value_at}
 use Rattle.base_types.specs.Rules.{fails_if}
+use Rattle.base_types.specs.Steps.{◌>>=◌, needed}
 use Rattle.hmac_jws.specs.Compact.{compact}
 use Rattle.iam_names.specs.declared.audience.Audience.{Audience}
-use Rattle.iam_names.specs.declared.pool_name.PoolName.{PoolName}
 use Rattle.iam_names.specs.Audience.{audience_text}
 use Rattle.access_token.specs.Payload.{payload_text}
+use Rattle.pools.specs.Providers.{ProviderView, of_subject}
 use Rattle.service_config.specs.declared.config.Config.{Config}
 use Rattle.service_config.specs.declared.config.StartProvider.{StartProvider}
 use Rattle.service_config.specs.Configuration.{provider_name}
@@ -19,15 +20,13 @@ use Rattle.links.specs.declared.fault.RuleCode.TheVariants.{E14, E15}
 use Rattle.links.specs.declared.source.Source.{Source}
 use Rattle.links.specs.Chain.{Kind, Link, Chain, chains_of, chain_at, next_chain}
 use Rattle.links.specs.Facts.{facts_of}
-use Rattle.base_types.specs.Steps.{◌>>=◌}
 use Rattle.links.specs.Sources.{passed, source_of}
 
--- The issuer and the key of the tokens that are issued, the provider that is there from the start, what stands under the
--- names that commands put, how many entries there were, and the links that they recorded.
+-- The issuer and the key of the tokens that are issued, what stands under the names that commands put, how many entries there
+-- were, and the links that they recorded.
 pub record Content : Type 0 where
   pub issuer : List ℕ
   pub key : List ℕ
-  pub start : Option StartProvider
   pub view : View
   pub count : ℕ
   pub links : List Link
@@ -37,22 +36,25 @@ pub record Kept : Type 0 where
   pub content : Content
   pub spare : ℕ
 
--- the provider's pool
-abbrev pub pool_of : Option StartProvider → Option PoolName
-pool_of start = option_map (λ provider. provider.pool) start
+-- the provider that is there from the start: enabled, with the claim `sub` for the subject
+abbrev pub start_provider : StartProvider → ProviderView
+start_provider start = of_subject (provider_name start) (record { name = start.issuer; key = start.key; audiences = [] })
 
--- the state before the first entry: the provider's pool is there, enabled, and the scope word for all permissions
+-- the state before the first entry: the provider and its pool are there, enabled, and the scope word for all permissions
 abbrev pub start_of : Config → Content
-start_of config = record { issuer = config.issuer; key = config.key; start = config.start; view = start_view (pool_of config.start); count = 0; links = [] }
+start_of config = record { issuer = config.issuer; key = config.key; view = start_view (option_map start_provider config.start); count = 0; links = [] }
 
 -- the provider of that name
-abbrev pub named : Option StartProvider → Audience → Result StartProvider RuleCode
-named None name = Err E14
-named (Some provider) name = if bytes_eq (audience_text (provider_name provider)) (audience_text name) then Ok provider else Err E14
+abbrev pub named : View → Audience → Result ProviderView RuleCode
+named view name = needed E14 (value_at (audience_text name) view.providers)
+
+-- neither the provider nor its pool is disabled
+abbrev pub provider_enabled : View → ProviderView → Bool
+provider_enabled view provider = not provider.disabled && pool_enabled view provider.name.pool
 
 -- what the subject token gives, or the first rule that it fails
 abbrev pub source_at : Content → Audience → List ℕ → ℕ → Result Source RuleCode
-source_at c provider token now = named c.start provider >>= (λ p. passed (fails_if (not (pool_enabled c.view p.pool)) E15) (source_of p token now))
+source_at c provider token now = named c.view provider >>= (λ p. passed (fails_if (not (provider_enabled c.view p)) E15) (source_of p token now))
 
 -- the link of an exchange at that moment for these words
 abbrev pub federated_link : List (List ℕ) → ℕ → Source → Link
@@ -78,7 +80,6 @@ abbrev pub after : Content → Entry → Content
 after c e = record {
   issuer = c.issuer;
   key = c.key;
-  start = c.start;
   view = view_behind c.view e;
   count = c.count + 1;
   links = with_link c.links (link_of c e);

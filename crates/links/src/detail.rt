@@ -1,9 +1,9 @@
 ghost use Rattle.std.specs.Prelude.{◌≡◌, ◌++◌, IfOk};
 ghost use Rattle.links.specs.Refusals.{jws_text, claim_text, map_text};
 
-use crate::MapFault;
 use base_types::Text;
 use hmac_jws::JwsFault;
+use pools::MapFault;
 use std::alloc::{AllocError, Global};
 use wif_claims::ClaimFault;
 
@@ -54,6 +54,11 @@ pub(crate) fn map_fault(alloc: Global, fault: &MapFault) -> Result<Text, AllocEr
         MapFault::Expired => Text::copy_of(alloc, "Expired"),
         MapFault::NotYet => Text::copy_of(alloc, "NotYet"),
         MapFault::Subject => Text::copy_of(alloc, "Subject"),
+        MapFault::Groups => Text::copy_of(alloc, "Groups"),
+        MapFault::Attribute { name } => coded(alloc, "Attribute ", name.copy(alloc)?),
         MapFault::TooLong { key } => coded(alloc, "TooLong ", key.copy(alloc)?),
+        MapFault::ConditionError => Text::copy_of(alloc, "ConditionError"),
+        MapFault::ConditionFalse => Text::copy_of(alloc, "ConditionFalse"),
+        MapFault::Memory => Text::copy_of(alloc, "Memory"),
     }
 }

@@ -1,23 +1,9 @@
 use crate::detail::{claim_fault, coded, jws_fault, map_fault};
 use base_types::Text;
 use hmac_jws::JwsFault;
+use pools::MapFault;
 use std::alloc::{AllocError, Global};
 use wif_claims::ClaimFault;
-
-/// The first rule of a provider that claims fail.
-#[derive(Debug, Drop)]
-pub enum MapFault {
-    /// `iss` isn't the provider's issuer.
-    Issuer,
-    /// No `aud` is the provider's name, nor `https:` followed by it.
-    Audience,
-    Expired,
-    NotYet,
-    /// The subject isn't there, is no text, or is empty.
-    Subject,
-    /// What stands under the mapping's key is too long: a subject over 127 bytes.
-    TooLong { key: Text },
-}
 
 /// The first rule that forbids an entry. No fault in it is want of memory.
 #[derive(Debug, Drop)]
@@ -26,7 +12,7 @@ pub enum RuleCode {
     E11,
     /// The provider is unknown.
     E14,
-    /// The provider's pool is disabled.
+    /// The provider or its pool is disabled.
     E15,
     /// The subject token isn't signed under the provider's key.
     E16(JwsFault),
@@ -36,9 +22,11 @@ pub enum RuleCode {
     E18(MapFault),
     /// The subject token's claims give no identity.
     E19(MapFault),
+    /// The provider's condition isn't true of the subject token.
+    E20(MapFault),
     /// The access token would have over 8,192 bytes.
     E25,
-    /// A binding's role is unknown.
+    /// A provider's pool or a binding's role is unknown.
     A4,
     /// A new name would pass its limit.
     A6,
@@ -60,6 +48,7 @@ impl RuleCode {
             | RuleCode::E17(_)
             | RuleCode::E18(_)
             | RuleCode::E19(_)
+            | RuleCode::E20(_)
             | RuleCode::E25 => "invalid_request",
         }
     }
@@ -76,6 +65,7 @@ impl RuleCode {
             RuleCode::E17(fault) => coded(alloc, "E17 ", claim_fault(alloc, *fault)?),
             RuleCode::E18(fault) => coded(alloc, "E18 ", map_fault(alloc, fault)?),
             RuleCode::E19(fault) => coded(alloc, "E19 ", map_fault(alloc, fault)?),
+            RuleCode::E20(fault) => coded(alloc, "E20 ", map_fault(alloc, fault)?),
             RuleCode::E25 => Text::copy_of(alloc, "E25"),
             RuleCode::A4 => Text::copy_of(alloc, "A4"),
             RuleCode::A6 => Text::copy_of(alloc, "A6"),

@@ -1,13 +1,10 @@
 ghost use Rattle.std.specs.Prelude.{◌≡◌, ◌≤◌, ◌∷◌, [], ℕ, List, IfOk, IfErr, Ok, Some, length, nat_lt, not, option_map};
 ghost use Rattle.std.specs.List.{list_all};
-ghost use Rattle.std.specs.Str.{bytes_eq};
 ghost use Rattle.base_types.specs.Rules.{fails_if, first_of};
 ghost use Rattle.hmac_jws.specs.Compact.{compact};
-ghost use Rattle.iam_names.specs.Audience.{audience_text};
 ghost use Rattle.access_token.specs.Facts.{name_of};
 ghost use Rattle.access_token.specs.Payload.{payload_text};
-ghost use Rattle.service_config.specs.Configuration.{provider_name};
-ghost use Rattle.service_view.specs.View.{cloud_platform as word_from_start, pool_enabled};
+ghost use Rattle.service_view.specs.View.{cloud_platform as word_from_start};
 ghost use Rattle.links.specs.declared.entry.Entry.TheVariants as entries;
 ghost use Rattle.links.specs.declared.prepared.Plan.TheVariants as plans;
 ghost use Rattle.links.specs.declared.fault.RuleCode.TheVariants.{E11, E15, E25};
@@ -17,17 +14,17 @@ ghost use Rattle.links.specs.Facts.{pools_in};
 ghost use Rattle.links.specs.Licence.{Passes, fault_of, first_unlicensed, knows_word, prepared_of};
 ghost use Rattle.links.specs.Prepared.{planned};
 ghost use Rattle.links.specs.Recorded.{recorded};
-ghost use Rattle.links.specs.State.{made, named, source_at};
+ghost use Rattle.links.specs.State.{made, named, provider_enabled, source_at};
 
 use crate::prepared::Issued;
-use crate::source::{Source, name_of, read_source};
+use crate::source::{Source, read_source};
 use crate::{ApplyFault, Exchange, RecordedKind, RecordedLink, RuleCode, State};
 use access_token::{Facts, subject_name, write_payload};
 use allow_policy::knows_scope;
 use base_types::{Items, Text};
 use hmac_jws::sign;
 use iam_names::{Audience, PoolName, ScopeWord, Who};
-use service_config::StartProvider;
+use pools::Provider;
 use service_view::cloud_platform;
 use std::alloc::{AllocError, Global};
 
@@ -239,14 +236,14 @@ fn source_in(
     ensures passes { Passes result (fault_of (source_at state.now.content provider.now token.now now)) }
 {
     let provider = provider_named(alloc, state, provider)?;
-    check_pool(state, provider)?;
+    check_enabled(state, provider)?;
     read_source(alloc, provider, token, now)
 }
 
-fn check_pool(state: &State, provider: &StartProvider) -> Result<(), ApplyFault>
-    ensures { Passes result (fails_if (not (pool_enabled state.now.content.view provider.now.pool)) E15) }
+fn check_enabled(state: &State, provider: &Provider) -> Result<(), ApplyFault>
+    ensures { Passes result (fails_if (not (provider_enabled state.now.content.view provider.now)) E15) }
 {
-    if state.view().is_pool_enabled(&provider.pool) {
+    if !provider.is_disabled() && state.view().is_pool_enabled(&provider.name().pool) {
         return Ok(());
     }
     Err(unlicensed(RuleCode::E15))
@@ -256,23 +253,13 @@ fn provider_named<'a>(
     alloc: Global,
     state: &'a State,
     name: &Audience,
-) -> Result<&'a StartProvider, ApplyFault>
-    ensures provider { IfOk result (λ provider. named state.now.content.start name.now ≡ Ok provider.now) }
-    ensures passes { Passes result (fault_of (named state.now.content.start name.now)) }
+) -> Result<&'a Provider, ApplyFault>
+    ensures provider { IfOk result (λ provider. named state.now.content.view name.now ≡ Ok provider.now) }
+    ensures passes { Passes result (fault_of (named state.now.content.view name.now)) }
 {
-    let Some(provider) = state.start_provider() else {
-        return Err(unlicensed(RuleCode::E14));
-    };
-    if has_name(alloc, provider, name)? {
-        return Ok(provider);
+    let name = name.print(alloc)?;
+    match state.view().provider(name.as_str()) {
+        Some(provider) => Ok(provider),
+        None => Err(unlicensed(RuleCode::E14)),
     }
-    Err(unlicensed(RuleCode::E14))
-}
-
-fn has_name(alloc: Global, provider: &StartProvider, name: &Audience) -> Result<bool, AllocError>
-    ensures { IfOk result (λ same. same ≡ bytes_eq (audience_text (provider_name provider.now)) (audience_text name.now)) }
-{
-    let own = name_of(alloc, provider)?;
-    let other = name.print(alloc)?;
-    Ok(own.as_str() == other.as_str())
 }

@@ -27,8 +27,9 @@ pub fn entries_that_follow_change_no_link()
         → token_text (content_of config (journal ++ more)) found ≡ token_text (content_of config journal) found }
 {}
 
-/// A law: an exchange is licensed only where its subject token verifies under the key of the provider that it names, comes from
-/// that provider's issuer, names the provider as its audience, and is live at the moment.
+/// A law: an exchange is licensed only where its subject token verifies under the key of the provider that it names, and the
+/// provider admits its claims: they are of its issuer, for an audience that it accepts, live at the moment, and its condition is
+/// true of them. The link is the identity's that it maps them to.
 pub fn issued_for_a_verified_subject_token_alone()
     ensures { (c : Content) (exchange : Exchange) → Licensed c (Federated exchange) → WasShown c exchange }
 {}

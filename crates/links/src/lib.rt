@@ -15,7 +15,7 @@ mod source;
 mod state;
 
 pub use entry::{Entry, Exchange};
-pub use fault::{ApplyFault, MapFault, RuleCode};
+pub use fault::{ApplyFault, RuleCode};
 pub use federated::all_permissions;
 pub use issued::find_issued;
 pub use laws::{

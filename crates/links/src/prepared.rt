@@ -26,9 +26,13 @@ pub struct Prepared {
 }
 
 impl Model for Prepared {
+    ghost use Rattle.std.specs.Coded.{codes};
+    ghost use Rattle.cel_values.specs.contracts.expr.Expr as tree;
     ghost use Rattle.links.specs.Prepared.{PreparedEntry, planned};
 
     ghost Value = { PreparedEntry };
+
+    ghost coded = { Prim.hlevel (codes, tree.the_row.coded) };
 
     ghost view = { λ p. planned p.plan };
 }

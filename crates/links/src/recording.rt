@@ -2,15 +2,14 @@ ghost use Rattle.std.specs.Prelude.{◌≡◌, ◌≤◌, ◌<◌, ◌-◌, ◌^
 ghost use Rattle.links.specs.declared.entry.Entry.TheVariants as entries;
 ghost use Rattle.links.specs.declared.fault.ApplyFault.{ApplyFault as Fault};
 ghost use Rattle.links.specs.Entries.{IsEntry, IsExchange};
-ghost use Rattle.links.specs.Licence.{Licensed, Passes, first_unlicensed, prepared_of};
+ghost use Rattle.links.specs.Licence.{Licensed, Passes, first_unlicensed, prepared_of, refusal_of};
 ghost use Rattle.links.specs.Prepared.{planned};
 ghost use Rattle.links.specs.State.{after};
 
 use crate::federated::issue;
 use crate::prepared::Plan;
 use crate::{ApplyFault, Entry, Exchange, Prepared, RuleCode, State};
-use allow_policy::PutFault;
-use service_view::Command;
+use service_view::{Command, ReadyFault};
 use std::alloc::{AllocError, Global};
 
 /// Looks whether the state licenses an entry, and makes all that its recording needs. It changes no content.
@@ -23,23 +22,38 @@ pub fn prepare(alloc: Global, state: &mut State, entry: Entry) -> Result<Prepare
     ensures room { OnOk result (1 ≤ state.new.spare) }
 {
     match entry {
-        Entry::Put(command) => prepare_put(state, command),
+        Entry::Put(command) => prepare_put(alloc, state, command),
         Entry::Federated(exchange) => prepare_exchange(alloc, state, exchange),
     }
 }
 
-fn prepare_put(state: &mut State, command: Command) -> Result<Prepared, ApplyFault>
+fn prepare_put(alloc: Global, state: &mut State, command: Command) -> Result<Prepared, ApplyFault>
     ensures licensed { Passes result (first_unlicensed state.old.content (entries.Put command)) }
     ensures prepared { IfOk result (λ prepared. prepared ≡ prepared_of state.old.content (entries.Put command)) }
     ensures content { state.new.content ≡ state.old.content }
     ensures room { OnOk result (1 ≤ state.new.spare) }
 {
-    match state.ready(command) {
+    match state.ready(alloc, command) {
         Ok(ready) => with_room(state, Plan::Put(ready)),
-        Err(PutFault::UnknownRole) => Err(ApplyFault::Unlicensed { rule: RuleCode::A4 }),
-        Err(PutFault::Limit) => Err(ApplyFault::Unlicensed { rule: RuleCode::A6 }),
-        Err(PutFault::Memory) => Err(ApplyFault::Memory),
+        Err(fault) => Err(refusal(fault)),
     }
+}
+
+// What is told of a command that can't be placed.
+fn refusal(fault: ReadyFault) -> ApplyFault
+    ensures { result ≡ refusal_of fault }
+{
+    match fault {
+        ReadyFault::UnknownPool | ReadyFault::UnknownRole => unlicensed(RuleCode::A4),
+        ReadyFault::Limit => unlicensed(RuleCode::A6),
+        ReadyFault::Memory => ApplyFault::Memory,
+    }
+}
+
+fn unlicensed(rule: RuleCode) -> ApplyFault
+    ensures { result ≡ Fault.Unlicensed rule }
+{
+    ApplyFault::Unlicensed { rule }
 }
 
 fn prepare_exchange(

@@ -1,15 +1,14 @@
-ghost use Rattle.std.specs.Prelude.{◌≡◌, ◌≤◌, IfOk};
-ghost use Rattle.std.specs.Option.{option_copied};
+ghost use Rattle.std.specs.Prelude.{◌≡◌, ◌≤◌, [], IfOk, option_map};
 ghost use Rattle.service_config.specs.Formed.{IsFormedConfig};
-ghost use Rattle.links.specs.State.{pool_of as start_pool, start_of};
+ghost use Rattle.service_view.specs.View.{start_view as view_at_start};
+ghost use Rattle.links.specs.State.{start_of, start_provider as provider_at_start};
 
 use crate::prepared::{Issued, Plan};
 use crate::{Exchange, RecordedLink};
-use allow_policy::PutFault;
-use base_types::Text;
-use iam_names::PoolName;
+use base_types::{Items, Text, both};
+use pools::{Provider, TokenIssuer};
 use service_config::{Config, Key, StartProvider};
-use service_view::{Command, Ready, View, place};
+use service_view::{Command, Ready, ReadyFault, View, place};
 use std::alloc::{AllocError, Global};
 use std::marker::Model;
 
@@ -18,22 +17,25 @@ use std::marker::Model;
 pub struct State {
     issuer: Text,
     key: Key,
-    start: Option<StartProvider>,
     view: View,
     count: u32,
     links: Vec<RecordedLink>,
 }
 
 impl Model for State {
+    ghost use Rattle.std.specs.Coded.{codes};
     ghost use Rattle.std.specs.Prelude.{◌≤◌, ◌-◌, min, map, vec_len, vec_capacity};
+    ghost use Rattle.cel_values.specs.contracts.expr.Expr as tree;
     ghost use Rattle.links.specs.Licence.{Reached};
     ghost use Rattle.links.specs.Recorded.{AreHeld, link_of_recorded};
     ghost use Rattle.links.specs.State.{Kept};
 
     ghost Value = { Kept };
 
+    ghost coded = { Prim.hlevel (codes, tree.the_row.coded) };
+
     ghost view = { λ s. record {
-      content = record { issuer = s.issuer; key = s.key; start = s.start; view = s.view.content; count = s.count; links = map link_of_recorded s.links.items };
+      content = record { issuer = s.issuer; key = s.key; view = s.view.content; count = s.count; links = map link_of_recorded s.links.items };
       spare = min s.view.spare (vec_capacity s.links - vec_len s.links);
     } };
 
@@ -41,64 +43,68 @@ impl Model for State {
         × Reached (record {
           issuer = s.issuer;
           key = s.key;
-          start = s.start;
           view = s.view.content;
           count = s.count;
           links = map link_of_recorded s.links.items;
         }) };
 }
 
-/// The state of a configuration before the first entry: the provider's pool is there, enabled, and the scope word for all
+/// The state of a configuration before the first entry: the provider and its pool are there, enabled, and the scope word for all
 /// permissions.
 pub fn start(alloc: Global, config: &Config) -> Result<State, AllocError>
     requires formed { IsFormedConfig config.now }
     ensures { IfOk result (λ state. state.content ≡ start_of config.now) }
 {
-    let view = View::start(alloc, pool_of(&config.start))?;
-    match copies(alloc, config) {
-        Ok(own) => Ok(State {
-            issuer: own.issuer,
-            key: own.key,
-            start: own.start,
-            view,
-            count: 0,
-            links: Vec::new(alloc),
-        }),
-        Err(AllocError) => {
-            drop(view);
-            Err(AllocError)
-        }
-    }
-}
-
-// What a state keeps of its configuration.
-#[derive(Drop)]
-struct Own {
-    issuer: Text,
-    key: Key,
-    start: Option<StartProvider>,
-}
-
-fn copies(alloc: Global, config: &Config) -> Result<Own, AllocError>
-    ensures { IfOk result (λ own. own ≡ record { issuer = config.now.issuer; key = config.now.key; start = config.now.start }) }
-{
-    let Config {
+    let view = start_view(alloc, &config.start)?;
+    let (view, (issuer, key)) = both(Ok(view), tokens_of(alloc, config))?;
+    Ok(State {
         issuer,
         key,
-        start,
-        admin,
-        gate,
-    } = config.copy(alloc)?;
-    drop(admin);
-    drop(gate);
-    Ok(Own { issuer, key, start })
+        view,
+        count: 0,
+        links: Vec::new(alloc),
+    })
+}
+
+// What tokens are made with: their issuer and their key.
+fn tokens_of(alloc: Global, config: &Config) -> Result<(Text, Key), AllocError>
+    ensures { IfOk result (λ parts. parts ≡ (config.now.issuer, config.now.key)) }
+{
+    both(config.issuer.copy(alloc), config.key.copy(alloc))
+}
+
+fn start_view(alloc: Global, start: &Option<StartProvider>) -> Result<View, AllocError>
+    ensures { IfOk result (λ view. view.content ≡ view_at_start (option_map provider_at_start start.now)) }
+{
+    let provider = match start {
+        Some(start) => Some(start_provider(alloc, start)?),
+        None => None,
+    };
+    View::start(alloc, provider)
+}
+
+fn start_provider(alloc: Global, start: &StartProvider) -> Result<Provider, AllocError>
+    ensures { IfOk result (λ provider. provider ≡ provider_at_start start.now) }
+{
+    let (name, issuer) = both(start.name(alloc), token_issuer(alloc, start))?;
+    Provider::of_subject(alloc, name, issuer)
+}
+
+fn token_issuer(alloc: Global, start: &StartProvider) -> Result<TokenIssuer, AllocError>
+    ensures { IfOk result (λ issuer. issuer ≡ record { name = start.now.issuer; key = start.now.key; audiences = [] }) }
+{
+    let name = start.issuer.copy(alloc)?;
+    let (name, key) = both(Ok(name), start.key.copy(alloc))?;
+    Ok(TokenIssuer {
+        name,
+        key,
+        audiences: Items::new(alloc),
+    })
 }
 
 impl State {
     ghost use Rattle.std.specs.Prelude.{◌≡◌, ◌≤◌, ◌<◌, ◌-◌, ◌^◌, length, not, nat_lt, OnOk, IfOk, Some, option_map};
-    ghost use Rattle.std.specs.Option.{option_copied};
-    ghost use Rattle.allow_policy.specs.Puts.{RefusesBy};
-    ghost use Rattle.service_view.specs.Puts.{put_fault, made_ready, command_of};
+    ghost use Rattle.service_view.specs.Puts.{RefusesBy, ready_fault, made_ready, command_of};
     ghost use Rattle.links.specs.Licence.{Licensed, Reached, prepared_of};
     ghost use Rattle.links.specs.declared.entry.Entry.TheVariants as entries;
     ghost use Rattle.links.specs.Entries.{IsEntry, IsExchange};
@@ -119,13 +125,6 @@ impl State {
         ensures enough { 32 ≤ length self.now.content.key }
     {
         self.key.as_slice()
-    }
-
-    /// The provider that is there from the start.
-    pub fn start_provider(&self) -> Option<&StartProvider>
-        ensures { option_copied result ≡ self.now.content.start }
-    {
-        self.start.as_ref()
     }
 
     /// What stands now under the names that commands put.
@@ -186,12 +185,12 @@ impl State {
     }
 
     // Looks whether a command may be placed, and makes it ready.
-    pub(crate) fn ready(&mut self, command: Command) -> Result<Ready, PutFault>
+    pub(crate) fn ready(&mut self, alloc: Global, command: Command) -> Result<Ready, ReadyFault>
         ensures command { IfOk result (λ ready. ready ≡ made_ready command) }
-        ensures refused { RefusesBy (put_fault self.old.content.view command) result }
+        ensures refused { RefusesBy (ready_fault self.old.content.view command) result }
         ensures content { self.new.content ≡ self.old.content }
     {
-        service_view::ready(&mut self.view, command)
+        service_view::ready(alloc, &mut self.view, command)
     }
 
     // Records what was planned.
@@ -213,6 +212,7 @@ impl State {
     fn put(&mut self, ready: Ready)
         requires room { 1 ≤ self.old.spare }
         requires count { self.old.content.count < 2 ^ 32 - 1 }
+        requires form { IsEntry (entries.Put (command_of ready)) }
         requires licensed { Licensed self.old.content (entries.Put (command_of ready)) }
         ensures { self.new.content ≡ after self.old.content (entries.Put (command_of ready)) }
     {
@@ -232,14 +232,5 @@ impl State {
         drop(exchange);
         self.links.push(issued.recorded).unwrap();
         self.count += 1;
-    }
-}
-
-fn pool_of(start: &Option<StartProvider>) -> Option<&PoolName>
-    ensures { option_copied result ≡ start_pool start.now }
-{
-    match start {
-        Some(provider) => Some(&provider.pool),
-        None => None,
     }
 }

@@ -5,6 +5,12 @@ use std::alloc::AllocError;
 pub enum CommandMember {
     Project,
     Pool,
+    Provider,
+    Issuer,
+    Key,
+    Audiences,
+    Mapping,
+    Condition,
     Disabled,
     Email,
     Role,
@@ -17,10 +23,12 @@ pub enum CommandMember {
 /// The first rule that a command fails.
 #[derive(Clone, Copy, Debug, PartialEq, Eq)]
 pub enum CommandFault {
-    /// `kind` isn't there, or is none of the texts `pool`, `account`, `role`, `scope` and `policy`.
+    /// `kind` isn't there, or is none of the texts `pool`, `provider`, `account`, `role`, `scope` and `policy`.
     Kind,
     /// The member isn't there and has no default, or is of another type or form.
     Field(CommandMember),
+    /// The member's expression doesn't parse, or has another type. It comes where each member has its form.
+    Expression(CommandMember),
     Memory,
 }
 
@@ -35,6 +43,12 @@ impl CommandMember {
         match self {
             CommandMember::Project => "project",
             CommandMember::Pool => "pool",
+            CommandMember::Provider => "provider",
+            CommandMember::Issuer => "issuer",
+            CommandMember::Key => "key",
+            CommandMember::Audiences => "audiences",
+            CommandMember::Mapping => "mapping",
+            CommandMember::Condition => "condition",
             CommandMember::Disabled => "disabled",
             CommandMember::Email => "email",
             CommandMember::Role => "role",

@@ -1,13 +1,17 @@
 ghost use Rattle.std.specs.Prelude.{◌≡◌, ◌≢◌, ◌⊎◌, Ok, Err, IfOk, IfErr};
 ghost use Rattle.serde_json.specs.View.{view};
 ghost use Rattle.sts_admin.specs.Commands as commands;
-ghost use Rattle.sts_admin.specs.Commands.{command_of, Gives};
+ghost use Rattle.sts_admin.specs.Answers.{Gives};
+ghost use Rattle.sts_admin.specs.Commands.{command_of};
 ghost use Rattle.service_view.specs.declared.command.Command.{Command};
 ghost use Rattle.sts_admin.specs.declared.command.CommandFault.{CommandFault};
 
-use crate::bindings::bindings_at;
+use crate::bindings::{bindings_at, has_bindings};
 use crate::command::{CommandFault, CommandMember};
 use crate::members::{disabled_at, name_at, permissions_at, scope_set_at};
+use crate::provider::provider_command;
+use allow_policy::Binding;
+use base_types::Items;
 use iam_names::{
     AccountForm, PoolIdForm, PoolName, ProjectForm, ResourceForm, RoleForm, ScopeWordForm,
 };
@@ -81,10 +85,26 @@ fn policy_command(alloc: Global, json: &Value) -> Result<Command, CommandFault>
     let Some(resource) = name_at::<ResourceForm>(alloc, json, "resource")? else {
         return Err(CommandFault::Field(CommandMember::Resource));
     };
-    let Some(bindings) = bindings_at(alloc, json)? else {
+    match policy_bindings(alloc, json) {
+        Ok(bindings) => Ok(Command::Policy { resource, bindings }),
+        Err(fault) => {
+            drop(resource);
+            Err(fault)
+        }
+    }
+}
+
+// The form of all bindings comes before what expressions their conditions are.
+fn policy_bindings(alloc: Global, json: &Value) -> Result<Items<Binding>, CommandFault>
+    ensures { Gives result (commands.bindings_at (view json.now)) }
+{
+    if !has_bindings(alloc, json)? {
         return Err(CommandFault::Field(CommandMember::Bindings));
-    };
-    Ok(Command::Policy { resource, bindings })
+    }
+    match bindings_at(alloc, json)? {
+        Some(bindings) => Ok(bindings),
+        None => Err(CommandFault::Expression(CommandMember::Bindings)),
+    }
 }
 
 fn command_of_kind(alloc: Global, kind: &str, json: &Value) -> Result<Command, CommandFault>
@@ -92,6 +112,7 @@ fn command_of_kind(alloc: Global, kind: &str, json: &Value) -> Result<Command, C
 {
     match kind {
         "pool" => pool_command(alloc, json),
+        "provider" => provider_command(alloc, json),
         "account" => account_command(alloc, json),
         "role" => role_command(alloc, json),
         "scope" => scope_command(alloc, json),
@@ -109,18 +130,24 @@ fn command_from(alloc: Global, json: &Value) -> Result<Command, CommandFault>
     }
 }
 
-/// The command that a JSON object is, or the first rule that it fails: `kind` first, then the members of
-/// its kind in this order. Other members don't count.
+/// The command that a JSON object is, or the first rule that it fails: `kind` first, then the forms of the members of
+/// its kind in this order, then `mapping`, `condition` or `bindings` where a text in it is no expression of its type.
+/// Other members don't count.
 ///
 /// - `pool`: `project`, `pool`, `disabled`
+/// - `provider`: `project`, `pool`, `provider`, `issuer`, `key`, `audiences`, `mapping`, `condition`, `disabled`
 /// - `account`: `email`, `disabled`
 /// - `role`: `role`, `permissions`
 /// - `scope`: `scope`, `permissions`, which may also be the text `*`
 /// - `policy`: `resource`, `bindings`
 ///
 /// `disabled` is a boolean, false where it isn't there. `permissions` is an array of at most 256 texts,
-/// `bindings` one of at most 64 objects, each with a `role` and with `members`, an array of at most 64
-/// texts. What isn't an object has no `kind`.
+/// `bindings` one of at most 64 objects, each with a `role`, with `members`, an array of at most 64 texts,
+/// and perhaps with a `condition`, an object with a text `expression`. A provider's `issuer` has 1 to 256
+/// bytes, its `key` is base64url without padding of 32 to 128 bytes, `audiences` is an array of at most 10
+/// texts of 1 to 256 bytes, empty where it isn't there, `mapping` an object of at most 50 texts under
+/// `google.subject`, `google.groups` and `attribute.NAME`, the first of which is there, and `condition` a
+/// text that may be absent. What isn't an object has no `kind`.
 pub fn read_command(alloc: Global, json: &Value) -> Result<Command, CommandFault>
     ensures read { IfOk result (λ command. command_of (view json.now) ≡ Ok command) }
     ensures refused { IfErr result (λ fault. fault ≢ CommandFault.Memory

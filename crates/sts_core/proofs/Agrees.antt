@@ -1,6 +1,6 @@
 -- The gate agrees with the chain of a recorded link.
 use Rattle.std.proofs.Common.{◌≡◌, ℕ, ◌+◌, ◌<◌, ◌≤◌, ◌^◌, ◌++◌, List, [], ◌∷◌, Bool, true, false, nat_lt, length, refl, sym, ap, ◌∙◌, subst, arith, ◌⊎◌, inl, inr}
-use Rattle.std.specs.Prelude.{⊤, Option, None, Some, Result, Ok, Err, IsUtf8, option_and_then, option_map, if◌then◌else◌}
+use Rattle.std.specs.Prelude.{⊤, Option, None, Some, Ok, IsUtf8, option_and_then, option_map}
 use Rattle.std.specs.List.{list_all}
 use Rattle.std.proofs.lemmas.Option.{slice_get_within}
 use Rattle.allow_policy.specs.Granting.{granted, scope_allows}

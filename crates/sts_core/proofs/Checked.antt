@@ -1,17 +1,19 @@
 -- The laws of checks, and of the journal that each step leaves.
-use Rattle.std.proofs.Common.{◌≡◌, ℕ, ◌≤◌, ◌^◌, ◌++◌, ◌∷◌, [], List, Bool, true, false, length, refl, sym, ap, ◌∙◌, subst}
-use Rattle.std.specs.Prelude.{◌↔◌, ⊤, nat_lt, codes, IfSome, option_map, Option, None, Some, Result, Ok, Err, option_and_then, if◌then◌else◌}
+use Rattle.std.proofs.Common.{◌≡◌, ℕ, ◌≤◌, ◌^◌, ◌∷◌, [], List, Bool, true, false, length, refl, sym, ap, ◌∙◌, subst}
+use Rattle.std.specs.Prelude.{◌↔◌, ⊤, nat_lt, codes, IfSome, Option, None, Some, Result, Ok, Err, option_and_then, if◌then◌else◌}
 use Rattle.base_types.specs.Rules.{first_failing}
 use Rattle.serde_json.specs.Data.{Data}
-use Rattle.hmac_jws.specs.Verified.{first_jws_fault, payload_of, MacGood}
+use Rattle.hmac_jws.specs.Verified.{first_jws_fault, MacGood}
 use Rattle.hmac_jws.specs.declared.fault.JwsFault.{JwsFault}
 use Rattle.service_config.specs.declared.config.Config.{Config}
 use Rattle.service_config.specs.Formed.{IsFormedConfig}
-use Rattle.service_config.specs.declared.config.StartProvider.{StartProvider}
+use Rattle.iam_names.specs.declared.audience.Audience.{Audience}
 use Rattle.service_view.specs.View.{View, pool_enabled, account_enabled}
+use Rattle.service_view.specs.Commands.{IsCommand}
 use Rattle.service_view.specs.declared.command.Command.{Command}
 use Rattle.sts_admin.specs.declared.command.CommandFault.{CommandFault}
 use Rattle.sts_admin.specs.Commands.{command_of}
+use Rattle.sts_admin.proofs.FormedCommands.{command_formed}
 use Rattle.wif_base.specs.declared.request.Request.{Request}
 use Rattle.wif_base.specs.declared.route.Route.{Route}
 use Rattle.wif_base.specs.declared.route.Route.TheVariants.{Token, Generate, Introspect, Check, Admin}
@@ -32,15 +34,16 @@ use Rattle.links.specs.Entries.{IsEntry}
 use Rattle.links.specs.Facts.{exp_of, pools_of, accounts_of, scopes_of}
 use Rattle.links.specs.Issued.{issued_link}
 use Rattle.links.specs.Licence.{first_unlicensed, Lawful}
-use Rattle.links.specs.State.{Content, chain, content_of, start_of, state_after, token_text}
+use Rattle.links.specs.State.{chain, content_of, start_of, state_after, token_text}
 use Rattle.links.proofs.LinkLaws.{issued_for}
 use Rattle.links.proofs.Replays.{lawful-last, state_after-append}
 use Rattle.sts_core.specs.declared.form.Parameter.{Parameter}
-use Rattle.sts_core.specs.Asked.{asked_entry, asks_for, entry_of}
+use Rattle.sts_core.specs.declared.exchange.Asked.{Asked}
+use Rattle.sts_core.specs.Asked.{asked_for, exchange_of, exchange_under, is_plain_exchange, named_provider}
+use Rattle.sts_core.specs.Formed.{IsFormedAsked}
 use Rattle.sts_core.specs.Forms.{form_of, once}
 use Rattle.sts_core.specs.Machine.{administration, command_in, commanded, commanded_by, exchange, exchanged, is_bearer, no_entry, object_of, ruled, step, step_of, with_entry}
-use Rattle.sts_core.specs.Replies.{not_built, u1}
-use Rattle.sts_core.specs.Unbuilt.{is_unbuilt}
+use Rattle.sts_core.specs.Replies.{u1}
 use Rattle.sts_core.specs.Check.{check_decision, chain_or_carried, issued_chain, first_denial, link_decision}
 
 -- ---- a denial is no admission
@@ -129,23 +132,20 @@ ruled_lawful : (config : Config) (journal : List Entry) (e : Entry) (rule : Opti
 ruled_lawful config journal e None is form lawful = lawful-last (start_of config) journal e lawful form is
 ruled_lawful config journal e (Some rule) is form lawful = lawful
 
-command_lawful : (config : Config) (journal : List Entry) (command : Command) (rule : Option RuleCode) → first_unlicensed (content_of config journal) (entry.Put command) ≡ rule → Lawful config journal
-    → Lawful config (with_entry journal (commanded_by (content_of config journal) command rule).entry)
-command_lawful config journal command None is lawful = lawful-last (start_of config) journal (entry.Put command) lawful tt is
-command_lawful config journal command (Some rule) is lawful = lawful
+command_lawful : (config : Config) (journal : List Entry) (command : Command) (rule : Option RuleCode) → IsCommand command → first_unlicensed (content_of config journal) (entry.Put command) ≡ rule
+    → Lawful config journal → Lawful config (with_entry journal (commanded_by (content_of config journal) command rule).entry)
+command_lawful config journal command None form is lawful = lawful-last (start_of config) journal (entry.Put command) lawful form is
+command_lawful config journal command (Some rule) form is lawful = lawful
 
-commanded_lawful : (config : Config) (journal : List Entry) (read : Result Command CommandFault) → Lawful config journal → Lawful config (with_entry journal (commanded (content_of config journal) read).entry)
-commanded_lawful config journal (Err fault) lawful = lawful
-commanded_lawful config journal (Ok command) lawful = command_lawful config journal command (first_unlicensed (content_of config journal) (entry.Put command)) refl lawful
-
-unbuilt_lawful : (config : Config) (journal : List Entry) (d : Data) (unbuilt : Bool) → Lawful config journal
-    → Lawful config (with_entry journal (if unbuilt then no_entry not_built else commanded (content_of config journal) (command_of d)).entry)
-unbuilt_lawful config journal d true lawful = lawful
-unbuilt_lawful config journal d false lawful = commanded_lawful config journal (command_of d) lawful
+commanded_lawful : (config : Config) (journal : List Entry) (read : Result Command CommandFault) → ((command : Command) → read ≡ Ok command → IsCommand command) → Lawful config journal
+    → Lawful config (with_entry journal (commanded (content_of config journal) read).entry)
+commanded_lawful config journal (Err fault) form lawful = lawful
+commanded_lawful config journal (Ok command) form lawful =
+    command_lawful config journal command (first_unlicensed (content_of config journal) (entry.Put command)) (form command refl) refl lawful
 
 object_lawful : (config : Config) (journal : List Entry) (object : Option Data) → Lawful config journal → Lawful config (with_entry journal (command_in (content_of config journal) object).entry)
 object_lawful config journal None lawful = lawful
-object_lawful config journal (Some d) lawful = unbuilt_lawful config journal d (is_unbuilt d) lawful
+object_lawful config journal (Some d) lawful = commanded_lawful config journal (command_of d) (λ command is. command_formed d command is) lawful
 
 bearer_lawful : (config : Config) (journal : List Entry) (request : Request) (known : Bool) → Lawful config journal
     → Lawful config (with_entry journal (if known then command_in (content_of config journal) (object_of request.body) else no_entry u1).entry)
@@ -158,32 +158,35 @@ unfolding administration
 administration_lawful config journal secret request lawful = bearer_lawful config journal request (is_bearer secret request.bearer) lawful
 
 -- what is asked for has its form
-asked_token : (provider : StartProvider) (now : ℕ) (token : Option (List ℕ)) (e : Entry) → now ≤ 200_000_000_000 → option_map (entry_of provider now) token ≡ Some e → IsEntry e
-asked_token provider now None e low is = absurd (cc is)
-asked_token provider now (Some token) e low is =
-    let same : entry_of provider now token ≡ e = cc is in
-    subst IsEntry same (record { moment = low; words = refl })
+under_formed : (token : List ℕ) (now : ℕ) (provider : Option Audience) → now ≤ 200_000_000_000 → IsFormedAsked (exchange_under token now provider)
+under_formed token now None low = tt
+under_formed token now (Some provider) low = record { moment = low; words = refl }
 
-asked_by : (provider : StartProvider) (form : List Parameter) (now : ℕ) (asks : Bool) (e : Entry) → now ≤ 200_000_000_000
-    → (if asks then option_map (entry_of provider now) (once (codes "subject_token") form) else None) ≡ Some e → IsEntry e
-asked_by provider form now true e low is = asked_token provider now (once (codes "subject_token") form) e low is
-asked_by provider form now false e low is = absurd (cc is)
+of_formed : (token : Option (List ℕ)) (provider : Option Audience) (now : ℕ) → now ≤ 200_000_000_000 → IsFormedAsked (exchange_of token provider now)
+of_formed None provider now low = tt
+of_formed (Some token) provider now low = under_formed token now provider low
 
-asked_form : (start : Option StartProvider) (form : List Parameter) (now : ℕ) (e : Entry) → now ≤ 200_000_000_000 → asked_entry start form now ≡ Some e → IsEntry e
-unfolding asked_entry
-asked_form None form now e low is = absurd (cc is)
-asked_form (Some provider) form now e low is = asked_by provider form now (asks_for provider form) e low is
+plain_formed : (plain : Bool) (asked : Asked) → IsFormedAsked asked → IsFormedAsked (if plain then asked else Asked.Unbuilt)
+plain_formed true asked formed = formed
+plain_formed false asked formed = tt
 
-exchanged_lawful : (config : Config) (journal : List Entry) (asked : Option Entry) → ((e : Entry) → asked ≡ Some e → IsEntry e) → Lawful config journal
+asked_formed : (form : List Parameter) (now : ℕ) → now ≤ 200_000_000_000 → IsFormedAsked (asked_for form now)
+unfolding asked_for
+asked_formed form now low =
+    let token = once (codes "subject_token") form in
+    let provider = named_provider (once (codes "audience") form) in
+    plain_formed (is_plain_exchange form) (exchange_of token provider now) (of_formed token provider now low)
+
+exchanged_lawful : (config : Config) (journal : List Entry) (asked : Asked) → IsFormedAsked asked → Lawful config journal
     → Lawful config (with_entry journal (exchanged (content_of config journal) asked).entry)
-exchanged_lawful config journal None form lawful = lawful
-exchanged_lawful config journal (Some e) form lawful = ruled_lawful config journal e (first_unlicensed (content_of config journal) e) refl (form e refl) lawful
+exchanged_lawful config journal Asked.Unbuilt form lawful = lawful
+exchanged_lawful config journal Asked.Nobody form lawful = lawful
+exchanged_lawful config journal (Asked.Entry e) form lawful = ruled_lawful config journal e (first_unlicensed (content_of config journal) e) refl form lawful
 
 pub exchange_lawful : (config : Config) (journal : List Entry) (request : Request) (now : ℕ) → now ≤ 200_000_000_000 → Lawful config journal
     → Lawful config (with_entry journal (exchange (content_of config journal) request now).entry)
 exchange_lawful config journal request now low lawful =
-    let c = content_of config journal in
-    exchanged_lawful config journal (asked_entry c.start (form_of request.body) now) (λ e is. asked_form c.start (form_of request.body) now e low is) lawful
+    exchanged_lawful config journal (asked_for (form_of request.body) now) (asked_formed (form_of request.body) now low) lawful
 
 route_lawful : (config : Config) (journal : List Entry) (request : Request) (route : Route) (now : ℕ) → now ≤ 200_000_000_000 → Lawful config journal
     → Lawful config (with_entry journal (step_of route config (content_of config journal) request now).entry)

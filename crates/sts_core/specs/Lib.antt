@@ -1,9 +1,9 @@
 pub mod Asked
 pub mod Check
+pub mod Formed
 pub mod Forms
 pub mod Machine
 pub mod Refusals
 pub mod Replies
 pub mod Runs
 pub mod State
-pub mod Unbuilt

@@ -21,17 +21,18 @@ use Rattle.service_view.specs.declared.command.Command.{Command}
 use Rattle.sts_admin.specs.declared.command.CommandFault.{CommandFault}
 use Rattle.sts_admin.specs.Commands.{command_of}
 use Rattle.links.specs.declared.fault.RuleCode.{RuleCode}
+use Rattle.links.specs.declared.fault.RuleCode.TheVariants.{E14}
 use Rattle.access_token.specs.Active.{active_text}
 use Rattle.links.specs.Chain.{Chain}
 use Rattle.links.specs.Facts.{facts_of}
 use Rattle.links.specs.Licence.{first_unlicensed, prepared_of}
 use Rattle.links.specs.Authority.{live}
 use Rattle.links.specs.State.{Content, content_of}
-use Rattle.sts_core.specs.Asked.{asked_entry}
+use Rattle.sts_core.specs.Asked.{asked_for}
+use Rattle.sts_core.specs.declared.exchange.Asked.{Asked}
 use Rattle.sts_core.specs.Forms.{form_of, is_all_text, once}
 use Rattle.sts_core.specs.Refusals.{refusal_of, command_refusal}
 use Rattle.sts_core.specs.Replies.{u1, n2, a1, bad_argument, decision_reply, not_built, inactive, issued, entered}
-use Rattle.sts_core.specs.Unbuilt.{is_unbuilt}
 
 -- the reply to a request, and the entry that it adds to the journal, if any
 pub record Answer : Type 0 where
@@ -73,14 +74,15 @@ abbrev pub ruled : Content → Entry → Option RuleCode → Answer
 ruled c entry (Some rule) = no_entry (refusal_of rule)
 ruled c entry None = record { reply = issued (prepared_of c entry); entry = Some entry }
 
--- a form that asks for no exchange of this kind is refused, and one that does is ruled on
-abbrev pub exchanged : Content → Option Entry → Answer
-exchanged c None = no_entry not_built
-exchanged c (Some entry) = ruled c entry (first_unlicensed c entry)
+-- a form that asks for an exchange of another kind or of no provider is refused, and an exchange is ruled on
+abbrev pub exchanged : Content → Asked → Answer
+exchanged c Asked.Unbuilt = no_entry not_built
+exchanged c Asked.Nobody = no_entry (refusal_of E14)
+exchanged c (Asked.Entry entry) = ruled c entry (first_unlicensed c entry)
 
 -- what is asked for is issued, where no rule forbids it
 abbrev pub exchange : Content → Request → ℕ → Answer
-exchange c request now = exchanged c (asked_entry c.start (form_of request.body) now)
+exchange c request now = exchanged c (asked_for (form_of request.body) now)
 
 -- ---- commands
 
@@ -102,10 +104,10 @@ is_object d = is_some (as_object d)
 abbrev pub object_of : List ℕ → Option Data
 object_of body = option_and_then (passing is_object) (document body)
 
--- a body that is no object is refused, and so is a command of a kind that is not built yet
+-- a body that is no object is refused, and what an object asks for is read and ruled on
 abbrev pub command_in : Content → Option Data → Answer
 command_in c None = no_entry a1
-command_in c (Some d) = if is_unbuilt d then no_entry not_built else commanded c (command_of d)
+command_in c (Some d) = commanded c (command_of d)
 
 -- the command is recorded, where the bearer is the secret and no rule forbids it
 unfoldable pub administration : List ℕ → Content → Request → Answer

@@ -8,8 +8,7 @@ use crate::Stop;
 use crate::body::read_object;
 use crate::introspection::is_bearer;
 use crate::refusal::{command_refused, refusal_of};
-use crate::reply::{bad_argument, entered, no_bearer, not_built};
-use crate::unbuilt::is_unbuilt;
+use crate::reply::{bad_argument, entered, no_bearer};
 use base_types::Text;
 use links::{ApplyFault, Entry, State, commit, prepare};
 use serde_json::Value;
@@ -49,9 +48,6 @@ fn obey(alloc: Global, state: &mut State, json: &Value) -> Result<Reply, Stop>
         (with_entry [] (command_in state.old.content (Some (view json.now))).entry)) }
     ensures refused { OnErr result (state.new.content ≡ state.old.content) }
 {
-    if is_unbuilt(json) {
-        return Ok(not_built(alloc)?);
-    }
     match read_command(alloc, json) {
         Ok(command) => enter(alloc, state, command),
         Err(CommandFault::Memory) => Err(Stop::Memory),
@@ -66,6 +62,7 @@ fn enter(alloc: Global, state: &mut State, command: Command) -> Result<Reply, St
     ensures content { OnOk result (state.new.content ≡ state_after state.old.content (with_entry [] (commanded state.old.content (Ok command)).entry)) }
     ensures refused { OnErr result (state.new.content ≡ state.old.content) }
 {
+    command.has_its_form();
     let number = state.entry_count();
     match prepare(alloc, state, Entry::Put(command)) {
         Ok(prepared) => match entered(alloc, number) {

@@ -1,24 +1,38 @@
-ghost use Rattle.std.specs.Prelude.{◌≡◌, ◌≤◌, ◌<◌, ◌-◌, ◌^◌, IfOk, IfSome, OnOk, OnErr, Some, []};
+ghost use Rattle.std.specs.Prelude.{◌≡◌, ◌≤◌, ◌<◌, ◌-◌, ◌^◌, IfOk, OnOk, OnErr, Some, [], option_map};
+ghost use Rattle.std.specs.List.{list_all};
 ghost use Rattle.links.specs.Entries.{IsEntry};
 ghost use Rattle.links.specs.State.{state_after};
-ghost use Rattle.sts_core.specs.Asked.{asked_entry, asks_for, is_plain_exchange, is_once as once_is, unwanted};
-ghost use Rattle.std.specs.List.{list_all};
+ghost use Rattle.sts_core.specs.Asked.{asked_for, exchange_under, named_provider, is_outside_type, is_plain_exchange, is_once as once_is, unwanted};
+ghost use Rattle.sts_core.specs.Formed.{IsFormedAsked};
 ghost use Rattle.sts_core.specs.Forms.{is_absent as absent};
 ghost use Rattle.sts_core.specs.Machine.{exchange as exchange_of, exchanged, with_entry};
+ghost use Rattle.sts_core.specs.declared.exchange.Asked.TheVariants as asks;
 
 use crate::Stop;
 use crate::form::{Parameter, is_absent, is_all_text, once, read_form};
 use crate::refusal::refusal_of;
 use crate::reply::{issued, not_built};
-use base_types::Text;
-use links::{ApplyFault, Entry, Exchange, State, all_permissions, commit, prepare};
-use service_config::StartProvider;
+use base_types::{Text, both};
+use iam_names::{Audience, NameError};
+use links::{ApplyFault, Entry, Exchange, RuleCode, State, all_permissions, commit, prepare};
 use std::alloc::{AllocError, Global};
 use wif_base::{Reply, Request};
 
 const GRANT_TYPE: &str = "urn:ietf:params:oauth:grant-type:token-exchange";
 
 const JWT_TYPE: &str = "urn:ietf:params:oauth:token-type:jwt";
+
+const ID_TOKEN_TYPE: &str = "urn:ietf:params:oauth:token-type:id_token";
+
+/// What a form asks for.
+#[derive(Debug, Drop)]
+pub enum Asked {
+    /// An exchange of another kind.
+    Unbuilt,
+    /// An exchange whose audience isn't there once, or is no provider's name.
+    Nobody,
+    Entry(Entry),
+}
 
 /// Answers an exchange of a subject token for an access token (RFC 8693).
 pub(crate) fn exchange(
@@ -34,9 +48,12 @@ pub(crate) fn exchange(
     ensures refused { OnErr result (state.new.content ≡ state.old.content) }
 {
     let form = read_form(alloc, request.body.as_slice())?;
-    match asked(alloc, state, form.as_slice(), now)? {
-        Some(entry) => issue(alloc, state, entry),
-        None => Ok(not_built(alloc)?),
+    let asked = asked_for_in(alloc, form.as_slice(), now);
+    drop(form);
+    match asked? {
+        Asked::Entry(entry) => issue(alloc, state, entry),
+        Asked::Nobody => Ok(refusal_of(alloc, &RuleCode::E14)?),
+        Asked::Unbuilt => Ok(not_built(alloc)?),
     }
 }
 
@@ -44,8 +61,8 @@ pub(crate) fn exchange(
 fn issue(alloc: Global, state: &mut State, entry: Entry) -> Result<Reply, Stop>
     requires form { IsEntry entry }
     requires room { state.old.content.count < 2 ^ 32 - 1 }
-    ensures reply { IfOk result (λ reply. reply ≡ (exchanged state.old.content (Some entry)).reply) }
-    ensures content { OnOk result (state.new.content ≡ state_after state.old.content (with_entry [] (exchanged state.old.content (Some entry)).entry)) }
+    ensures reply { IfOk result (λ reply. reply ≡ (exchanged state.old.content (asks.Entry entry)).reply) }
+    ensures content { OnOk result (state.new.content ≡ state_after state.old.content (with_entry [] (exchanged state.old.content (asks.Entry entry)).entry)) }
     ensures refused { OnErr result (state.new.content ≡ state.old.content) }
 {
     match prepare(alloc, state, entry) {
@@ -64,42 +81,56 @@ fn issue(alloc: Global, state: &mut State, entry: Entry) -> Result<Reply, Stop>
     }
 }
 
-// The entry that the form asks for.
-#[tactic(auto, unfolding(crate::specs::Asked::asked_entry))]
-fn asked(
-    alloc: Global,
-    state: &State,
-    form: &[Parameter],
-    now: u64,
-) -> Result<Option<Entry>, AllocError>
+#[tactic(auto, unfolding(crate::specs::Asked::asked_for))]
+fn asked_for_in(alloc: Global, form: &[Parameter], now: u64) -> Result<Asked, AllocError>
     requires { now ≤ 200_000_000_000 }
-    ensures entry { IfOk result (λ entry. entry ≡ asked_entry state.now.content.start form.now now) }
-    ensures form { IfOk result (λ entry. IfSome entry IsEntry) }
+    ensures asked { IfOk result (λ asked. asked ≡ asked_for form.now now) }
+    ensures form { IfOk result IsFormedAsked }
 {
-    let Some(provider) = state.start_provider() else {
-        return Ok(None);
-    };
-    if !asks(alloc, provider, form)? {
-        return Ok(None);
+    if !is_plain(form) {
+        return Ok(Asked::Unbuilt);
     }
-    match once(form, "subject_token") {
-        Some(token) => Ok(Some(Entry::Federated(Exchange {
-            provider: provider.name(alloc)?,
-            token: Text::copy_of(alloc, token)?,
-            scope: all_permissions(alloc)?,
-            at: now,
-        }))),
-        None => Ok(None),
+    let Some(token) = once(form, "subject_token") else {
+        return Ok(Asked::Unbuilt);
+    };
+    match provider_in(alloc, once(form, "audience"))? {
+        Some(provider) => exchange_with(alloc, provider, token, now),
+        None => Ok(Asked::Nobody),
     }
 }
 
-fn asks(alloc: Global, provider: &StartProvider, form: &[Parameter]) -> Result<bool, AllocError>
-    ensures { IfOk result (λ asks. asks ≡ asks_for provider.now form.now) }
+fn exchange_with(
+    alloc: Global,
+    provider: Audience,
+    token: &str,
+    now: u64,
+) -> Result<Asked, AllocError>
+    requires { now ≤ 200_000_000_000 }
+    ensures asked { IfOk result (λ asked. asked ≡ exchange_under token.now now (Some provider)) }
+    ensures form { IfOk result IsFormedAsked }
 {
-    let name = provider.name(alloc)?.print(alloc)?;
-    let plain = is_plain(form);
-    let audience = is_once(form, "audience", name.as_str());
-    Ok(plain && audience)
+    let (provider, token) = both(Ok(provider), Text::copy_of(alloc, token))?;
+    let ((provider, token), scope) = both(Ok((provider, token)), all_permissions(alloc))?;
+    Ok(Asked::Entry(Entry::Federated(Exchange {
+        provider,
+        token,
+        scope,
+        at: now,
+    })))
+}
+
+// The provider's name that an audience is.
+fn provider_in(alloc: Global, audience: Option<&str>) -> Result<Option<Audience>, AllocError>
+    ensures { IfOk result (λ found. found ≡ named_provider (option_map (λ text. text.now) audience.entry)) }
+{
+    let Some(audience) = audience else {
+        return Ok(None);
+    };
+    match Audience::read(alloc, audience) {
+        Ok(provider) => Ok(Some(provider)),
+        Err(NameError::Form) => Ok(None),
+        Err(NameError::Memory) => Err(AllocError),
+    }
 }
 
 fn is_plain(form: &[Parameter]) -> bool
@@ -107,9 +138,19 @@ fn is_plain(form: &[Parameter]) -> bool
 {
     let text = is_all_text(form);
     let grant = is_once(form, "grant_type", GRANT_TYPE);
-    let token_type = is_once(form, "subject_token_type", JWT_TYPE);
+    let token_type = is_outside(once(form, "subject_token_type"));
     let nothing_more = has_nothing_more(form);
     text && grant && token_type && nothing_more
+}
+
+// Whether it is a type of subject tokens from outside.
+fn is_outside(name: Option<&str>) -> bool
+    ensures { result ≡ is_outside_type (option_map (λ text. text.now) name.entry) }
+{
+    match name {
+        Some(name) => name == JWT_TYPE || name == ID_TOKEN_TYPE,
+        None => false,
+    }
 }
 
 fn has_nothing_more(form: &[Parameter]) -> bool

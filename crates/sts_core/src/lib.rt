@@ -11,7 +11,6 @@ mod laws;
 mod refusal;
 mod reply;
 mod sts;
-mod unbuilt;
 
 pub use form::Parameter;
 pub use laws::{

@@ -32,6 +32,10 @@ fn fault_text(alloc: Global, fault: CommandFault) -> Result<Text, AllocError>
             let name = member.name();
             Ok(Text::new(format!(in alloc; "A3 {name}")?))
         }
+        CommandFault::Expression(member) => {
+            let name = member.name();
+            Ok(Text::new(format!(in alloc; "A5 {name}")?))
+        }
         CommandFault::Kind | CommandFault::Memory => Text::copy_of(alloc, "A2"),
     }
 }

@@ -97,7 +97,7 @@ impl<D: Disk> Sts<D> {
             Route::Token => self.exchange(alloc, request, now),
             Route::Introspect => self.introspect(alloc, request, now),
             Route::Check => self.check(alloc, request, now),
-            Route::Admin => self.admin(alloc, request),
+            Route::Admin => self.admin(alloc, request, now),
             Route::Generate { .. } => Ok(not_built(alloc)?),
         }
     }
@@ -119,8 +119,8 @@ impl<D: Disk> Sts<D> {
         exchange(alloc, &mut self.state, request, now)
     }
 
-    /// Answers a command of an administrator: what it puts stands in place of what stood under its name.
-    pub fn admin(&mut self, alloc: Global, request: &Request) -> Result<Reply, Stop>
+    /// Answers a command of an administrator, whatever the moment: what it puts stands in place of what stood under its name.
+    pub fn admin(&mut self, alloc: Global, request: &Request, _now: u64) -> Result<Reply, Stop>
         ensures reply { (config : Configuration) (journal : List Entry) → Stands self.old config journal
             → IfOk result (λ reply. reply ≡ (administration config.admin (content_of config journal) request.now).reply) }
         ensures stands { (config : Configuration) (journal : List Entry) → Stands self.old config journal

@@ -1,12 +1,12 @@
-use Rattle.std.proofs.Common.{◌≡◌, ◌∙◌, Bool, true, false, List, sym, ap}
-use Rattle.std.specs.Prelude.{Some, ◌&&◌, nat_lt, option_map}
+use Rattle.std.proofs.Common.{◌∙◌, Bool, List, sym, ap}
+use Rattle.std.specs.Prelude.{Some, ◌&&◌, nat_lt}
 use Rattle.std.specs.List.{list_all}
 use Rattle.iam_names.specs.declared.pool_name.PoolName.{PoolName}
 use Rattle.service_view.specs.View.{View, pool_enabled}
 use Rattle.access_token.specs.declared.facts.Facts.{Facts}
 use Rattle.links.specs.Authority.{live}
 use Rattle.links.specs.Chain.{Chain}
-use Rattle.links.specs.State.{Content, chain}
+use Rattle.links.specs.State.{chain}
 use Rattle.links.proofs.Held.{from_facts, less, live_told, not_less}
 use Rattle.links.proofs.numbered.live.Goals as goal
 

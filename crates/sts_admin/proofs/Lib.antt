@@ -1,0 +1,4 @@
+pub mod CountedMembers
+pub mod FormedCommands
+pub mod FormedMappings
+pub mod ListedBindings
