@@ -67,16 +67,68 @@ ROWS = [
     *[('member', f'get{part}', 'timestamp', 'int', f'{MOMENT}.get{part}()') for part in (
         'FullYear', 'Month', 'DayOfMonth', 'DayOfYear', 'Date', 'DayOfWeek', 'Hours', 'Minutes', 'Seconds')],
 ]
+# What is no call: its form, its operands, its result, and an example.
+FORMS = [
+    ('a && b', 'bool, bool', 'bool', 'true && false'),
+    ('a || b', 'bool, bool', 'bool', '1 / 0 == 1 || true'),
+    ('c ? a : b', 'bool, two that fit', 'theirs', 'true ? 1 : 1 / 0'),
+    ('a == b', 'two that fit', 'bool', '[1, [2]] == [1, [2]]'),
+    ('a != b', 'two that fit', 'bool', '{"a": 1} != {"b": 1}'),
+    ('a in l', 'any, list', 'bool', '"b" in [1, "b"]'),
+    ('a in m', 'string, map', 'bool', '"a" in {"a": 1}'),
+    ('[a, b]', 'any', 'list(T)', '[1, 2]'),
+    ('{k: a}', 'string, any', 'map(T)', '{"a": 1, "b": 2}'),
+    ('m.field', 'map(T)', 'T', '{"a": {"b": "c"}}.a.b'),
+    ('m[k]', 'map(T), string', 'T', '{"a": 1}["a"]'),
+    ('l[i]', 'list(T), int', 'T', '[1, 2][0]'),
+    ('has(m.field)', 'map', 'bool', 'has({"a": 1}.b)'),
+    ('e.all(x, p)', 'list or map, bool', 'bool', '[1, 2].all(x, x > 0)'),
+    ('e.exists(x, p)', 'list or map, bool', 'bool', '[1, 2].exists(x, x > 1)'),
+    ('e.exists_one(x, p)', 'list or map, bool', 'bool', '[1, 2, 3].exists_one(x, x == 2)'),
+    ('l.filter(x, p)', 'list(T), bool', 'list(T)', '[1, 2, 3].filter(x, x > 1)'),
+    ('m.filter(x, p)', 'map, bool', 'list(string)', '{"b": 1, "a": 2}.filter(k, k == "b")'),
+    ('e.map(x, v)', 'list or map, T', 'list(T)', '[1, 2].map(x, x * 2)'),
+    ('e.map(x, p, v)', 'list or map, bool, T', 'list(T)', '[1, 2, 3].map(x, x > 1, x * 2)'),
+]
 TABLE_HEAD = """# Functions
 
-The overload table, which `tools/cel_types.py --table` prints; the case `overloads` of `crates/case_runs` compares its rows with the
-constant that the evaluator and the type checker read. A call takes the rows of its name, style and number of arguments
-that fit; where they differ in their result it is `dyn`. A member's first argument is what stands before the dot. `+` of lists
-joins the types of their items, `split` gives `list(string)`, and `join` takes a list whose items fit `string`. Each example is
-a case of `crates/case_runs`.
+What mappings and conditions can say: the functions and operators with their types, then the other forms. docs/FORMATS.md has what
+each means, the names that an expression sees, its limits and its errors. Both tables are made by `tools/cel_types.py`, and each
+example is a case of `crates/case_runs`, with what it gives there; `./sts cel` tells the same of any other.
 
-| Function | Arguments | Result | Example |
-|---|---|---|---|
+A number of JSON that is no integer of 64 bits, as `1.5`, `1e3` or `-0`, is opaque. An operator other than `&&`, `||` and `?:`, and a
+function other than `size`, has the error NoOverload on an operand that is opaque or holds such a value anywhere inside. So
+`"sub" in assertion` errs as soon as any claim is such a number, and `has(assertion.sub)` doesn't; nor does `assertion.sub == "x"`,
+whose operand is the one claim. In a condition an error refuses, or grants nothing.
+
+A call takes the rows of its name, style and number of arguments that fit; where they differ in their result it is `dyn`. A
+member's first argument is what stands before the dot. `+` of lists joins the types of their items, `split` gives `list(string)`, and
+`join` takes a list whose items fit `string`. The case `overloads` of `crates/case_runs` compares the rows with the constant that the
+evaluator and the type checker read.
+
+| Function | Arguments | Result | Example | It gives |
+|---|---|---|---|---|
+"""
+FORMS_HEAD = """
+The other forms; x is a name that stands for each item of a list, or each key of a map.
+
+| Form | Operands | Result | Example | It gives |
+|---|---|---|---|---|
+"""
+SPELLING = r"""
+## How an expression is written
+
+- Between tokens stand spaces, tabs, line breaks and form feeds, and comments from `//` to the end of their line.
+- An integer is digits, or `0x` and hexadecimal digits, from -9223372036854775808 to 9223372036854775807. There are no fractions.
+- A text stands in `"` or `'` on one line, with the escapes `\\`, `\'`, `\"`, `\n`, `\r`, `\t` and `\uHHHH` of a code point that is no
+  surrogate; with an `r` before the quote it has no escapes.
+- The other literals are `true`, `false`, `null`, lists `[a, b]` and maps `{"k": a}`; a comma may stand behind the last part of both.
+- A name is a letter or `_`, and then letters, digits and `_`, but none of `true`, `false`, `null`, `in`, nor of `as`, `break`, `const`,
+  `continue`, `else`, `for`, `function`, `if`, `import`, `let`, `loop`, `namespace`, `package`, `return`, `var`, `void`, `while`. Behind
+  a dot the latter are good.
+- From the weakest to the strongest: `c ? a : b`; `||`; `&&`; `<`, `<=`, `>`, `>=`, `==`, `!=`, `in`; `+`, `-`; `*`, `/`, `%`; `!` or `-`
+  before their operand, once or more; `.field`, `.call(..)` and `[..]` behind it. Those of a level go from the left; the last part of
+  `? :` may be another, the others want brackets for it.
 """
 
 
@@ -381,9 +433,20 @@ def cases():
 
 
 def table():
-    calls = {'operator': '`{}`', 'function': '`{}(..)`', 'member': '`t.{}(..)`'}
-    rows = [(calls[style].format(name), kinds.replace(' ', ', '), result, f'`{example}`') for style, name, kinds, result, example in ROWS]
-    return TABLE_HEAD + ''.join(f'| {" | ".join(row)} |\n' for row in rows)
+    calls = {'operator': '{}', 'function': '{}(..)', 'member': 't.{}(..)'}
+    rows = [(calls[style].format(name), kinds.replace(' ', ', '), result, example) for style, name, kinds, result, example in ROWS]
+    inputs, answers = cases()
+    gives = dict(zip(inputs, answers.split('\n'), strict=True))
+    return TABLE_HEAD + shown_rows(rows, gives) + FORMS_HEAD + shown_rows(FORMS, gives) + SPELLING
+
+
+def shown_rows(rows, gives):
+    """The rows of a table, each with what its example gives in the cases."""
+    made = ''
+    for form, kinds, result, example in rows:
+        value = unescaped(gives.get(case_of(example), '')).decode().rstrip('\n').rpartition('\nvalue ')[2]
+        made += f'| `{form}` | {kinds} | {result} | `{example}` | `{value}` |\n'.replace('||', '\\|\\|')
+    return made
 
 
 def overloads():
@@ -404,10 +467,14 @@ def answer_of(line, answer):
     return with_types(line.removeprefix('lines\t'), answer) if line.startswith('lines\t') else answer
 
 
+def case_of(example):
+    return 'lines\t' + escaped(json.dumps({'expr': example}, separators=(',', ':')).encode())
+
+
 def missing(inputs):
     """The examples that are no case."""
     known = set(inputs)
-    return [row[-1] for row in ROWS if 'lines\t' + escaped(json.dumps({'expr': row[-1]}, separators=(',', ':')).encode()) not in known]
+    return [row[-1] for row in ROWS + FORMS if case_of(row[-1]) not in known]
 
 
 def keep(word):

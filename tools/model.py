@@ -6,11 +6,16 @@ import json
 import re
 from urllib.parse import unquote_to_bytes
 
-from signing import HEADER, compact, decoded, encoded, mac, provider_name, signed
+from expressions import EvalError, Moment, checked, holds, meaning, result, value_of
+from signing import compact, decoded, encoded, mac, provider_name, signed
 
 EVERY = 'https://www.googleapis.com/auth/cloud-platform'
 OAUTH = 'urn:ietf:params:oauth:'
 LATEST = 2 ** 53
+SUBJECT_KEY, GROUPS_KEY = 'google.subject', 'google.groups'
+CLAIMS = {'assertion': ('map', 'dyn')}
+MAPPED = {**CLAIMS, 'google': ('map', 'dyn'), 'attribute': ('map', 'string')}
+ASKED = {'resource': ('map', 'string'), 'request': ('map', 'timestamp')}
 
 POOL_PATH = r'iam\.googleapis\.com/projects/(?P<project>[1-9][0-9]{0,18})/locations/global/workloadIdentityPools/(?P<pool>[a-z0-9-]{4,32})'
 ACCOUNT = r'[a-z0-9-]{1,63}@[a-z0-9-]{1,63}\.iam\.gserviceaccount\.com'
@@ -24,6 +29,7 @@ FORMS = {
     'scope': r'[!#-\[\]-~]{1,128}',
     'scopes': r'[!#-\[\]-~]{1,128}( [!#-\[\]-~]{1,128}){0,15}',
     'attribute': r'[a-z0-9_]{1,100}',
+    'mapping key': r'google\.subject|google\.groups|attribute\.[a-z0-9_]{1,100}',
     'resource': r'(?=.{1,1024}$)//[a-z0-9.-]+(/[!#-.0-\[\]-~]+)*',
     'member': rf'principal://{POOL_PATH}/subject/(?P<subject>.+)|principalSet://{POOL_PATH.replace("?P<", "?P<set")}/'
               rf'(\*|group/(?P<group>.+)|attribute\.(?P<name>[a-z0-9_]{{1,100}})/(?P<value>.+))|serviceAccount:(?P<account>{ACCOUNT})',
@@ -142,6 +148,7 @@ def is_actor(text):
 
 
 def read_claims(payload):
+    """The claims as the rules read them, and as they stand."""
     try:
         claims = read_json(payload)
     except (ValueError, RecursionError):
@@ -160,7 +167,7 @@ def read_claims(payload):
     for fault, holds in rules:
         if not holds:
             raise Fault(fault)
-    return dict(claims, aud=audiences, may_act=actors)
+    return dict(claims, aud=audiences, may_act=actors), claims
 
 
 def nested(name, subjects):
@@ -193,11 +200,12 @@ class Service:
     """The service's state, and its replies as a status and a JSON value."""
 
     def __init__(self, config):
-        self.config, self.start = config, config['start']
-        self.own, self.outside = decoded(config['key']), decoded(self.start['key'])
-        self.pools = {self.start['project'] + '/' + self.start['pool']: True}
+        self.config, self.own = config, decoded(config['key'])
+        self.pools, self.providers, self.links, self.entries = {}, {}, [], 0
         self.accounts, self.roles, self.policies, self.scopes = {}, {}, {}, {EVERY: '*'}
-        self.links, self.entries = [], 0
+        if 'start' in config:
+            self.pools[pool_of(config['start'])] = True
+            self.providers[provider_name(config['start'])] = provider_of(dict(config['start'], mapping={SUBJECT_KEY: 'assertion.sub'}))
 
     def reply(self, path, bearer, at, body):
         front = path.partition('?')[0]
@@ -214,17 +222,20 @@ class Service:
 
     def exchange(self, bearer, at, body):
         pairs = read_form(body)
-        wanted = [('grant_type', OAUTH + 'grant-type:token-exchange'), ('audience', provider_name(self.start)),
-                  ('subject_token_type', OAUTH + 'token-type:jwt')]
         more = ('requested_token_type', 'actor_token', 'actor_token_type', 'resource', 'scope', 'options')
-        if pairs is None or any(values(pairs, name) != [value] for name, value in wanted) \
+        if pairs is None or values(pairs, 'grant_type') != [OAUTH + 'grant-type:token-exchange'] \
+                or values(pairs, 'subject_token_type') not in ([OAUTH + 'token-type:jwt'], [OAUTH + 'token-type:id_token']) \
                 or len(values(pairs, 'subject_token')) != 1 or any(values(pairs, name) for name in more):
             raise Fault('Z1')
-        pool = self.start['project'] + '/' + self.start['pool']
-        if not self.pools[pool]:
+        audiences = values(pairs, 'audience')
+        if len(audiences) != 1 or audiences[0] not in self.providers:
+            raise Fault('E14')
+        provider = self.providers[audiences[0]]
+        if provider['disabled'] or not self.pools[provider['pool']]:
             raise Fault('E15')
-        claims = self.outside_claims(values(pairs, 'subject_token')[0], at)
-        facts = self.facts(pool, claims, at)
+        claims, tree = signed_claims(provider, values(pairs, 'subject_token')[0])
+        admitted(provider, audiences[0], claims, at)
+        facts = self.facts(provider['pool'], claims, identity(provider, value_of(tree)), at)
         token = signed(self.own, facts)
         if len(token) > 8192:
             raise Fault('E25')
@@ -233,36 +244,12 @@ class Service:
         return {'access_token': token, 'expires_in': facts['exp'] - at, 'issued_token_type': OAUTH + 'token-type:access_token',
                 'scope': facts['scope'], 'token_type': 'Bearer'}
 
-    def outside_claims(self, text, at):
-        code = 'E16'
-        try:
-            payload = verified(self.outside, text)
-            code = 'E17'
-            claims = read_claims(payload)
-        except Fault as fault:
-            raise Fault(f'{code} {fault}') from None
-        name, subject = provider_name(self.start), claims.get('sub')
-        has_subject = isinstance(subject, str) and subject != ''
-        rules = [('E18 Issuer', claims['iss'] == self.start['issuer']),
-                 ('E18 Audience', name in claims['aud'] or 'https:' + name in claims['aud']),
-                 ('E18 Expired', at < claims['exp']),
-                 ('E18 NotYet', claims.get('nbf', 0) <= at),
-                 ('E19 Subject', has_subject),
-                 ('E19 TooLong google.subject', has_subject and len(subject.encode()) <= 127)]
-        for code, holds in rules:
-            if not holds:
-                raise Fault(code)
-        return claims
-
-    def facts(self, pool, claims, at):
-        project, _, identifier = pool.partition('/')
-        path = f'iam.googleapis.com/projects/{project}/locations/global/workloadIdentityPools/{identifier}'
+    def facts(self, pool, claims, who, at):
         facts = {'exp': min(claims['exp'], at + 3600), 'iat': at, 'iss': self.config['issuer'], 'jti': str(len(self.links))}
         if claims['may_act']:
             facts['may_act'] = nested('may_act', claims['may_act'])
-        who = {'attributes': {}, 'groups': [], 'pool': pool, 'subject': claims['sub']}
-        facts.update(scope=EVERY, sub=f"principal://{path}/subject/{claims['sub']}",
-                     wif={'accounts': [], 'bounds': [], 'pools': [pool], 'scopes': [EVERY], 'who': who})
+        who = sorted_members(dict(who, pool=pool))
+        facts.update(scope=EVERY, sub=name_of(who), wif={'accounts': [], 'bounds': [], 'pools': [pool], 'scopes': [EVERY], 'who': who})
         return facts
 
     def introspect(self, bearer, at, body):
@@ -310,7 +297,7 @@ class Service:
                            ('G7', [any(what == '*' or permission in what for what in words) for words in lists])]:
             if False in held:
                 return f'{rule} {held.index(False)}'
-        return None if self.grants(wif['who'], permission, resource) else 'G9'
+        return None if self.grants(wif['who'], permission, resource, at) else 'G9'
 
     def carried(self, text):
         """The facts that a text carries, in a payload that is written as the service writes it."""
@@ -338,11 +325,13 @@ class Service:
                 and is_principal(facts['sub']) and name_of(wif['who']) is not None
                 and are_actors(facts, 'act', is_principal) and are_actors(facts, 'may_act', is_actor))
 
-    def grants(self, who, permission, resource):
+    def grants(self, who, permission, resource, at):
+        host, _, path = resource.removeprefix('//').partition('/')
+        env = {'resource': {'service': host, 'name': path}, 'request': {'time': Moment(at)}}
         for upper, bindings in self.policies.items():
             if resource == upper or resource.startswith(upper + '/'):
-                for binding in bindings:
-                    if permission in self.roles[binding['role']] and any(names(read_member(one), who) for one in binding['members']):
+                for role, members, condition in bindings:
+                    if permission in self.roles[role] and any(names(read_member(one), who) for one in members) and holds(condition, env):
                         return True
         return False
 
@@ -350,38 +339,162 @@ class Service:
         if bearer != self.config['admin']:
             raise Fault('U1')
         command = read_object(body, 'A1')
-        kind = command.get('kind')
-        if kind not in ('pool', 'account', 'role', 'scope', 'policy', 'provider'):
+        if command.get('kind') not in ('pool', 'account', 'role', 'scope', 'policy', 'provider'):
             raise Fault('A2')
-        bindings = command.get('bindings')
-        if kind == 'provider' or kind == 'policy' and isinstance(bindings, list) and any(isinstance(b, dict) and 'condition' in b for b in bindings):
-            raise Fault('Z1')
-        self.put(kind, command)
+        self.put(command['kind'], command)
         self.entries += 1
         return {'entry': self.entries - 1}
 
     def put(self, kind, command):
-        is_switch = type(command.get('disabled', False)) is bool
-        members = {
-            'pool': [('project', 'project'), ('pool', 'pool'), ('disabled', is_switch)],
-            'account': [('email', 'account'), ('disabled', is_switch)],
-            'role': [('role', 'role'), ('permissions', are_permissions(command.get('permissions')))],
-            'scope': [('scope', 'scope'), ('permissions', command.get('permissions') == '*' or are_permissions(command.get('permissions')))],
-            'policy': [('resource', 'resource'), ('bindings', are_bindings(command.get('bindings')))],
-        }[kind]
-        for name, form in members:
-            if not (form if isinstance(form, bool) else has_form(command.get(name), form)):
-                raise Fault(f'A3 {name}')
-        name = {'pool': lambda: command['project'] + '/' + command['pool'], 'account': lambda: command['email'], 'role': lambda: command['role'],
-                'scope': lambda: command['scope'], 'policy': lambda: command['resource']}[kind]()
-        table, limit = {'pool': (self.pools, 1000), 'account': (self.accounts, 10000), 'role': (self.roles, 1000),
-                        'scope': (self.scopes, 1000), 'policy': (self.policies, 10000)}[kind]
-        if kind == 'policy' and any(binding['role'] not in self.roles for binding in command['bindings']):
+        for member, form in MEMBERS[kind].items():
+            if not (form(command) if callable(form) else has_form(command.get(member), form)):
+                raise Fault(f'A3 {member}')
+        name, what = NAMED[kind](command), PUT[kind](command)
+        table, limit = {'pool': (self.pools, 1000), 'provider': (self.providers, 1000), 'account': (self.accounts, 10000),
+                        'role': (self.roles, 1000), 'scope': (self.scopes, 1000), 'policy': (self.policies, 10000)}[kind]
+        if kind == 'policy' and any(role not in self.roles for role, _, _ in what) or kind == 'provider' and what['pool'] not in self.pools:
             raise Fault('A4')
         if name not in table and len(table) >= limit:
             raise Fault('A6')
-        table[name] = {'pool': not command.get('disabled', False), 'account': not command.get('disabled', False), 'role': command.get('permissions'),
-                       'scope': command.get('permissions'), 'policy': command.get('bindings')}[kind]
+        table[name] = what
+
+
+# Subject tokens.
+
+def signed_claims(provider, text):
+    code = 'E16'
+    try:
+        payload = verified(provider['key'], text)
+        code = 'E17'
+        return read_claims(payload)
+    except Fault as fault:
+        raise Fault(f'{code} {fault}') from None
+
+
+def admitted(provider, name, claims, at):
+    """Refuses claims that aren't meant for the provider now."""
+    wanted = provider['audiences'] or [name, 'https:' + name]
+    for fault, meant in [('Issuer', claims['iss'] == provider['issuer']), ('Audience', any(one in wanted for one in claims['aud'])),
+                         ('Expired', at < claims['exp']), ('NotYet', claims.get('nbf', 0) <= at)]:
+        if not meant:
+            raise Fault(f'E18 {fault}')
+
+
+def is_full(text):
+    return isinstance(text, str) and text != ''
+
+
+def identity(provider, assertion):
+    """The subject, groups and attributes that a provider's mapping gives, or the first fault of it or of the condition."""
+    mapped = {key: result(tree, {'assertion': assertion}) for key, tree in sorted(provider['mapping'].items())}
+    subject, groups = mapped.pop(SUBJECT_KEY), mapped.pop(GROUPS_KEY, [])
+    attributes = {key.removeprefix('attribute.'): value for key, value in mapped.items()}
+    rules = [('Subject', is_full(subject)), ('Groups', isinstance(groups, list) and all(map(is_full, groups))),
+             *[(f'Attribute {name}', is_full(value)) for name, value in attributes.items()]]
+    for fault, is_fit in rules:
+        if not is_fit:
+            raise Fault(f'E19 {fault}')
+    sizes = [(SUBJECT_KEY, fits_in([subject], 127)), (GROUPS_KEY, len(groups) <= 64 and fits_in(groups, 256)),
+             *[(f'attribute.{name}', fits_in([value], 256)) for name, value in attributes.items()]]
+    for key, is_short in sizes:
+        if not is_short:
+            raise Fault(f'E19 TooLong {key}')
+    google = {'subject': subject, 'groups': groups}
+    meets_condition(provider['condition'], {'assertion': assertion, 'google': google, 'attribute': attributes})
+    return dict(google, attributes=attributes)
+
+
+def fits_in(texts, limit):
+    return all(len(text.encode()) <= limit for text in texts)
+
+
+def meets_condition(condition, env):
+    if condition is None:
+        return
+    try:
+        value = meaning(condition, env)
+    except EvalError:
+        value = None
+    if not isinstance(value, bool):
+        raise Fault('E20 ConditionError')
+    if not value:
+        raise Fault('E20 ConditionFalse')
+
+
+# Commands.
+
+def pool_of(command):
+    return command['project'] + '/' + command['pool']
+
+
+def is_short(value, limit):
+    return isinstance(value, str) and 1 <= len(value.encode()) <= limit
+
+
+def is_key(value):
+    try:
+        return isinstance(value, str) and 32 <= len(strict_base64(value, 0)) <= 128
+    except Fault:
+        return False
+
+
+def is_switch(command):
+    return type(command.get('disabled', False)) is bool
+
+
+def are_audiences(value):
+    return isinstance(value, list) and len(value) <= 10 and all(is_short(one, 256) for one in value)
+
+
+def is_mapping(value):
+    return isinstance(value, dict) and SUBJECT_KEY in value and len(value) <= 50 \
+        and all(has_form(key, 'mapping key') and isinstance(text, str) for key, text in value.items())
+
+
+def expression(text, names, wanted, member):
+    tree = checked(text, names, wanted)
+    if tree is None:
+        raise Fault(f'A5 {member}')
+    return tree
+
+
+def provider_of(command):
+    """A provider, or the fault of its expressions."""
+    wanted = {GROUPS_KEY: ('list', 'string')}
+    mapping = {key: expression(text, CLAIMS, wanted.get(key, 'string'), 'mapping') for key, text in command['mapping'].items()}
+    condition = expression(command['condition'], MAPPED, 'bool', 'condition') if 'condition' in command else None
+    return {'pool': pool_of(command), 'issuer': command['issuer'], 'key': decoded(command['key']), 'mapping': mapping,
+            'audiences': command.get('audiences', []), 'condition': condition, 'disabled': command.get('disabled', False)}
+
+
+def is_condition(value):
+    return isinstance(value, dict) and isinstance(value.get('expression'), str)
+
+
+def bindings_of(command):
+    """A policy's bindings, or the fault of their expressions."""
+    conditions = [expression(one['condition']['expression'], ASKED, 'bool', 'bindings') if 'condition' in one else None
+                  for one in command['bindings']]
+    return [(one['role'], one['members'], condition) for one, condition in zip(command['bindings'], conditions)]
+
+
+# The members of each kind of command, in their order, with their forms; the name under which it is put, and what is put.
+MEMBERS = {
+    'pool': {'project': 'project', 'pool': 'pool', 'disabled': is_switch},
+    'provider': {'project': 'project', 'pool': 'pool', 'provider': 'pool', 'issuer': lambda command: is_short(command.get('issuer'), 256),
+                 'key': lambda command: is_key(command.get('key')), 'audiences': lambda command: are_audiences(command.get('audiences', [])),
+                 'mapping': lambda command: is_mapping(command.get('mapping')),
+                 'condition': lambda command: isinstance(command.get('condition', ''), str), 'disabled': is_switch},
+    'account': {'email': 'account', 'disabled': is_switch},
+    'role': {'role': 'role', 'permissions': lambda command: are_permissions(command.get('permissions'))},
+    'scope': {'scope': 'scope', 'permissions': lambda command: command.get('permissions') == '*' or are_permissions(command.get('permissions'))},
+    'policy': {'resource': 'resource', 'bindings': lambda command: are_bindings(command.get('bindings'))},
+}
+NAMED = {'pool': pool_of, 'provider': provider_name, 'account': lambda command: command['email'], 'role': lambda command: command['role'],
+         'scope': lambda command: command['scope'], 'policy': lambda command: command['resource']}
+PUT = {'pool': lambda command: not command.get('disabled', False), 'account': lambda command: not command.get('disabled', False),
+       'role': lambda command: command['permissions'], 'scope': lambda command: command['permissions'],
+       'provider': provider_of, 'policy': bindings_of}
 
 
 def are_permissions(value):
@@ -391,7 +504,8 @@ def are_permissions(value):
 def are_bindings(value):
     return isinstance(value, list) and len(value) <= 64 and all(
         isinstance(one, dict) and has_form(one.get('role'), 'role') and isinstance(one.get('members'), list)
-        and len(one['members']) <= 64 and all(read_member(member) is not None for member in one['members']) for one in value)
+        and len(one['members']) <= 64 and all(read_member(member) is not None for member in one['members'])
+        and ('condition' not in one or is_condition(one['condition'])) for one in value)
 
 
 def are_actors(facts, name, is_text):

@@ -1,6 +1,8 @@
 """Signs tokens (HS256) and writes the frames of a script, with Python's standard library alone.
 
 usage: python3 tools/signing.py CONFIG exchange SUBJECT [AT]              a subject token of the configuration's provider, exchanged
+       python3 tools/signing.py CONFIG present PROVIDER CLAIMS [AT]       a subject token with these claims, exchanged; PROVIDER is the
+                                                                          command that puts its provider, CLAIMS a JSON object
        python3 tools/signing.py CONFIG introspect TOKEN [AT]
        python3 tools/signing.py CONFIG check TOKEN PERMISSION RESOURCE [AT]
        python3 tools/signing.py CONFIG admin COMMAND [AT]                 COMMAND is a JSON object
@@ -60,16 +62,23 @@ def exchange_pairs(start, token):
             ('subject_token', token), ('subject_token_type', kinds + 'token-type:jwt')]
 
 
+def presented(provider, told, at):
+    """The exchange of a subject token that a provider signs; `told` are its claims beside issuer, audience and times."""
+    claims = dict({'iss': provider['issuer'], 'aud': 'https:' + provider_name(provider), 'exp': at + 900, 'iat': at}, **told)
+    return frame('/v1/token', '-', at, form(exchange_pairs(provider, signed(decoded(provider['key']), claims))))
+
+
 def main(words):
     with open(words[0]) as source:
         config = json.load(source)
     start, verb, rest = config.get('start'), words[1], words[2:]
-    count = {'exchange': 1, 'introspect': 1, 'check': 3, 'admin': 1}[verb]
+    count = {'exchange': 1, 'present': 2, 'introspect': 1, 'check': 3, 'admin': 1}[verb]
     at = int(rest[count]) if len(rest) > count else AT
     gate = config['gate']
     if verb == 'exchange':
-        claims = {'iss': start['issuer'], 'sub': rest[0], 'aud': 'https:' + provider_name(start), 'exp': at + 900, 'iat': at}
-        made = frame('/v1/token', '-', at, form(exchange_pairs(start, signed(decoded(start['key']), claims))))
+        made = presented(start, {'sub': rest[0]}, at)
+    elif verb == 'present':
+        made = presented(json.loads(rest[0]), json.loads(rest[1]), at)
     elif verb == 'introspect':
         made = frame('/v1/introspect', gate, at, 'token=' + rest[0])
     elif verb == 'check':
@@ -80,6 +89,6 @@ def main(words):
 
 
 if __name__ == '__main__':
-    if len(sys.argv) < 4 or sys.argv[2] not in ('exchange', 'introspect', 'check', 'admin'):
+    if len(sys.argv) < 4 or sys.argv[2] not in ('exchange', 'present', 'introspect', 'check', 'admin'):
         sys.exit(__doc__)
     main(sys.argv[1:])

@@ -43,4 +43,5 @@ def main(word):
 if __name__ == '__main__':
     if sys.argv[1:] not in ([], ['--check'], ['--list']):
         sys.exit(__doc__)
+    sys.setrecursionlimit(10000)
     main(sys.argv[1] if len(sys.argv) > 1 else None)

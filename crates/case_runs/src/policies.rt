@@ -80,7 +80,14 @@ fn one_word(alloc: Global, text: &str) -> Result<Items<ScopeWord>, Stopped> {
 
 fn one_binding(alloc: Global, role: &str, member: &str) -> Result<Items<Binding>, Stopped> {
     let (role, members) = both(role_of(alloc, role), one_member(alloc, member))?;
-    list_of(alloc, Binding { role, members })
+    list_of(
+        alloc,
+        Binding {
+            role,
+            members,
+            condition: None,
+        },
+    )
 }
 
 fn put_one_role(

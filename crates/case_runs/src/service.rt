@@ -19,6 +19,7 @@ fn shown(command: &Command) -> &'static str {
     match command {
         Command::Pool { disabled: true, .. } => "put disabled pool",
         Command::Pool { .. } => "put pool",
+        Command::Provider(_) => "put provider",
         Command::Account { disabled: true, .. } => "put disabled account",
         Command::Account { .. } => "put account",
         Command::Role { .. } => "put role",
@@ -40,6 +41,10 @@ pub(crate) fn command(alloc: Global, inputs: &Inputs) -> Result<String, AllocErr
         Ok(command) => shown(&command).to_owned(alloc),
         Err(CommandFault::Kind) => "kind".to_owned(alloc),
         Err(CommandFault::Field(member)) => member.name().to_owned(alloc),
+        Err(CommandFault::Expression(member)) => {
+            let name = member.name();
+            format!(in alloc; "expression {name}")
+        }
         Err(CommandFault::Memory) => Err(AllocError),
     }
 }
