@@ -1,6 +1,6 @@
 -- A payload's tree says the facts that it was made of.
-use Rattle.std.proofs.Common.{◌≡◌, ◌≤◌, ◌^◌, ℕ, zero, suc, ◌==◌, Bool, true, false, ◌&&◌, List, [], ◌∷◌, length, refl, ◌∙◌, ap, arith, Option, None, Some, option_map, option_and_then, codes, nat_le, nat_lt}
-use Rattle.std.specs.List.{All, list_all, slice_split}
+use Rattle.std.proofs.Common.{◌≡◌, ◌≤◌, ◌^◌, ℕ, zero, suc, ◌==◌, true, false, ◌&&◌, List, [], ◌∷◌, length, refl, ◌∙◌, ap, arith, Option, None, Some, option_map, codes, nat_le, nat_lt}
+use Rattle.std.specs.List.{All, AllByRecursion, list_all, slice_split}
 use Rattle.std.specs.Fmt.{decimal}
 use Rattle.std.specs.Str.Parse.{digits_value}
 use Rattle.std.proofs.lemmas.Bool.Decides.{nat_tests, Decides-ltb}
@@ -10,7 +10,6 @@ use Rattle.std.proofs.lemmas.Fmt.{decimal_is_IsNumeral}
 use Rattle.std.proofs.lemmas.List.Splits.{slice_split_none, slice_split_at}
 use Rattle.serde_json.specs.Data.{Data, number, unsigned, string, object, no_members, member}
 use Rattle.base_types.specs.Forms.{has_size}
-use Rattle.json_text.specs.Arrays.{each}
 use Rattle.json_text.specs.Document.{item_texts}
 use Rattle.base_types.specs.Reading.{◌>>=◌}
 use Rattle.iam_names.specs.Forms.{is_plain_byte, is_scope_word, is_account}
@@ -23,18 +22,14 @@ use Rattle.access_token.specs.declared.facts.Facts.{Facts}
 use Rattle.access_token.specs.declared.parties.Parties.{Parties}
 use Rattle.access_token.specs.declared.wif.Wif.{Wif}
 use Rattle.access_token.specs.Forms.{is_name, is_attribute, is_who, is_identity, are_words}
-use Rattle.access_token.specs.Payload.{optional, items, nested, words_text, last_words, attributes_data, who_data, wif_data, payload_data}
+use Rattle.boundary.specs.Exact.{IsExactBoundary}
+use Rattle.boundary.specs.Written.{optional, items, boundary_data, listed_boundary}
+use Rattle.boundary.proofs.Back.{boundary_back}
+use Rattle.boundary.proofs.WrittenParts.{all_back, each_back}
+use Rattle.access_token.specs.Payload.{nested, words_text, last_words, attributes_data, who_data, wif_data, payload_data}
 use Rattle.access_token.specs.Parts.{formed, names_in, account_in, pool_in, scope_in, attributes_in, outside_in, who_in, parties_in, wif_in, facts_in}
-use Rattle.access_token.proofs.Formed.{AreFormed}
+use Rattle.access_token.proofs.Formed.{AreFormed, facts_of}
 use Rattle.access_token.proofs.Options.{both, formed-some}
-
--- a list whose items read back reads back
-each_back : {A : Type 0} (write : A → Data) (read : Data → Option A) (test : A → Bool) → ((x : A) → test x ≡ true → read (write x) ≡ Some x) → (xs : List A) → list_all test xs ≡ true → each read (items write xs) ≡ Some xs
-each_back write read test back [] all = refl
-each_back write read test back (x ∷ xs) all =
-    let parts = both (test x) (list_all test xs) all in
-    ap (λ (o : Option _). option_and_then (λ y. option_map (λ ys. y ∷ ys) (each read (items write xs))) o) (back x parts.0)
-    ∙ ap (λ (o : Option (List _)). option_map (λ ys. x ∷ ys) o) (each_back write read test back xs parts.1)
 
 texts_back : (xs : List (List ℕ)) → item_texts (items string xs) ≡ Some xs
 texts_back [] = refl
@@ -82,7 +77,7 @@ scope_back : (words : List (List ℕ)) → are_words words ≡ true → scope_in
 scope_back words h =
     let some = both (nat_le 1 (length words)) (nat_le (length words) 16 && list_all is_scope_word words) h in
     let all = both (nat_le (length words) 16) (list_all is_scope_word words) some.1 in
-    formed-some are_words _ words (ap (λ (l : List (List ℕ)). Some l) (split_back words all.1 (leb-true 1 (length words) some.0))) h
+    rw (split_back words all.1 (leb-true 1 (length words) some.0), h) refl
 
 -- ---- the parts
 
@@ -132,13 +127,19 @@ joined exp_there iat_there number_there parties_there wif_there = do
   whole ← number_there
   parties ← parties_there
   wif ← wif_there
-  Some (record { number = whole; sub = parties.sub; iat = iat; exp = exp; act = parties.act; may_act = parties.may_act; who = wif.who; pools = wif.pools; accounts = wif.accounts; scopes = wif.scopes })
+  Some (facts_of exp iat whole parties wif)
 
-wif_back : (facts : Facts) → AreFormed facts → wif_in (wif_data facts) ≡ Some (record { who = facts.who; pools = facts.pools; accounts = facts.accounts; scopes = facts.scopes })
+-- each boundary is exact
+abbrev pub AreExactBounds : Facts → Type 0
+AreExactBounds facts = AllByRecursion IsExactBoundary facts.bounds
+
+wif_back : (facts : Facts) → AreFormed facts → AreExactBounds facts
+    → wif_in (wif_data facts) ≡ Some (record { who = facts.who; pools = facts.pools; accounts = facts.accounts; scopes = facts.scopes; bounds = facts.bounds })
 unfolding wif_in wif_data
-wif_back facts is =
+wif_back facts is bounds =
     rw (
       each_back string account_in is_account account_back facts.accounts is.accounts,
+      all_back boundary_data listed_boundary IsExactBoundary boundary_back facts.bounds bounds,
       each_back (λ pool. string (pool_text pool)) pool_in is_pool_name pool_back facts.pools is.pools,
       each_back (λ words. string (words_text words)) scope_in are_words scope_back facts.scopes is.scopes,
       is.scopes_some,
@@ -146,16 +147,20 @@ wif_back facts is =
     ) refl
 
 -- an optional member's names, each of its form
-abbrev formed_names : List ℕ → (List ℕ → Bool) → Option Data → Option Texts
-formed_names name form there = formed (list_all form) (names_in name 8 there)
+abbrev act_of : Option Data → Option Texts
+act_of there = formed (list_all is_name) (names_in (codes "act") 8 there)
 
-joined_back : (facts : Facts) (act may_act : Option Texts) → AreFormed facts → act ≡ Some facts.act → may_act ≡ Some facts.may_act
+abbrev may_act_of : Option Data → Option Texts
+may_act_of there = formed (list_all (has_size 1 1024)) (names_in (codes "may_act") 8 there)
+
+joined_back : (facts : Facts) (act may_act : Option Texts) → AreFormed facts → AreExactBounds facts → act ≡ Some facts.act → may_act ≡ Some facts.may_act
     → joined (formed (λ seconds. nat_lt seconds (2 ^ 53)) (Some facts.exp)) (formed (λ seconds. nat_lt seconds (2 ^ 53)) (Some facts.iat))
     (formed (λ n. nat_lt n (2 ^ 32)) (Some (digits_value 10 (decimal facts.number)))) (parties_of act may_act (formed is_name (Some facts.sub)))
     (wif_in (wif_data facts)) ≡ Some facts
-joined_back facts act may_act is act_is may_act_is =
-    let written : digits_value 10 (decimal facts.number) ≡ facts.number = (decimal_is_IsNumeral facts.number (omega (arith, (Decides-ltb facts.number (2 ^ 32)).0 is.number))).1 in
-    rw (is.exp, is.iat, written, is.number, act_is, may_act_is, is.sub, wif_back facts is) refl
+joined_back facts act may_act is bounds act_is may_act_is =
+    let written : digits_value 10 (decimal facts.number) ≡ facts.number =
+    (decimal_is_IsNumeral facts.number (omega (arith, (Decides-ltb facts.number (2 ^ 32)).0 is.number))).1 in
+    rw (is.exp, is.iat, written, is.number, act_is, may_act_is, is.sub, wif_back facts is bounds) refl
 
 -- a payload's tree, with the two optional members, the scope and the subject aside
 tree : List ℕ → Facts → Option Data → Option Data → List ℕ → Data
@@ -170,18 +175,17 @@ tree issuer facts act may_act scope = object (
     member (codes "sub") (string facts.sub) (
     member (codes "wif") (wif_data facts) no_members)))))))))
 
-tree_back : (issuer : List ℕ) (facts : Facts) (act may_act : Option Data) (scope : List ℕ) → AreFormed facts
-    → formed_names (codes "act") is_name act ≡ Some facts.act → formed_names (codes "may_act") (has_size 1 1024) may_act ≡ Some facts.may_act
-    → facts_in (tree issuer facts act may_act scope) ≡ Some facts
+tree_back : (issuer : List ℕ) (facts : Facts) (act may_act : Option Data) (scope : List ℕ) → AreFormed facts → AreExactBounds facts
+    → act_of act ≡ Some facts.act → may_act_of may_act ≡ Some facts.may_act → facts_in (tree issuer facts act may_act scope) ≡ Some facts
 unfolding tree parties_in facts_in
-tree_back issuer facts None None scope is a m = joined_back facts (formed_names (codes "act") is_name None) (formed_names (codes "may_act") (has_size 1 1024) None) is a m
-tree_back issuer facts None (Some may) scope is a m = joined_back facts (formed_names (codes "act") is_name None) (formed_names (codes "may_act") (has_size 1 1024) (Some may)) is a m
-tree_back issuer facts (Some actor) None scope is a m = joined_back facts (formed_names (codes "act") is_name (Some actor)) (formed_names (codes "may_act") (has_size 1 1024) None) is a m
-tree_back issuer facts (Some actor) (Some may) scope is a m = joined_back facts (formed_names (codes "act") is_name (Some actor)) (formed_names (codes "may_act") (has_size 1 1024) (Some may)) is a m
+tree_back issuer facts None None scope is bounds a m = joined_back facts (act_of None) (may_act_of None) is bounds a m
+tree_back issuer facts None (Some may) scope is bounds a m = joined_back facts (act_of None) (may_act_of (Some may)) is bounds a m
+tree_back issuer facts (Some actor) None scope is bounds a m = joined_back facts (act_of (Some actor)) (may_act_of None) is bounds a m
+tree_back issuer facts (Some actor) (Some may) scope is bounds a m = joined_back facts (act_of (Some actor)) (may_act_of (Some may)) is bounds a m
 
-pub facts_back : (issuer : List ℕ) (facts : Facts) → AreFormed facts → facts_in (payload_data issuer facts) ≡ Some facts
+pub facts_back : (issuer : List ℕ) (facts : Facts) → AreFormed facts → AreExactBounds facts → facts_in (payload_data issuer facts) ≡ Some facts
 unfolding payload_data tree
-facts_back issuer facts is =
-    tree_back issuer facts (nested (codes "act") facts.act) (nested (codes "may_act") facts.may_act) (words_text (last_words facts.scopes)) is
+facts_back issuer facts is bounds =
+    tree_back issuer facts (nested (codes "act") facts.act) (nested (codes "may_act") facts.may_act) (words_text (last_words facts.scopes)) is bounds
     (formed-some (list_all is_name) _ facts.act (act_back 8 facts.act (leb-true (length facts.act) 8 is.act_few)) is.act)
     (formed-some (list_all (has_size 1 1024)) _ facts.may_act (may_act_back 8 facts.may_act (leb-true (length facts.may_act) 8 is.may_act_few)) is.may_act)

@@ -12,7 +12,8 @@ use Rattle.json_text.proofs.Documents.{document-some}
 use Rattle.json_text.proofs.Utf8Texts.{IsUtf8-compact_text}
 use Rattle.access_token.specs.Exact.{IsExact}
 use Rattle.access_token.specs.declared.facts.Facts.{Facts}
-use Rattle.access_token.specs.Payload.{optional, nested, payload_data, payload_text}
+use Rattle.boundary.specs.Written.{optional}
+use Rattle.access_token.specs.Payload.{nested, payload_data, payload_text}
 use Rattle.access_token.proofs.Clean.{payload_clean, payload_deep}
 use Rattle.access_token.proofs.Utf8.{payload_utf8}
 

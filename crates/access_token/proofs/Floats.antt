@@ -1,33 +1,21 @@
 -- No part of a payload is a float.
-use Rattle.std.proofs.Common.{◌≡◌, ℕ, List, [], ◌∷◌, false, Option, Some, None, codes, refl}
-use Rattle.std.specs.Prelude.{⊤}
+use Rattle.std.proofs.Common.{◌≡◌, ℕ, List, [], ◌∷◌, false, IfSome, codes, refl}
 use Rattle.std.specs.Fmt.{decimal}
-use Rattle.serde_json.specs.Data.{Data, Members, number, unsigned, string, no_members, member}
+use Rattle.serde_json.specs.Data.{number, unsigned, string, no_members, member}
 use Rattle.serde_json.specs.Written.{has_float, items_have_float, members_have_float}
 use Rattle.iam_names.specs.declared.who.Who.{Who}
 use Rattle.iam_names.specs.declared.who.Who.TheVariants.{Outside, Account}
 use Rattle.iam_names.specs.PoolName.{pool_text}
 use Rattle.access_token.specs.Active.{active_data}
 use Rattle.access_token.specs.declared.facts.Facts.{Facts}
-use Rattle.access_token.specs.Payload.{optional, items, nested, words_text, last_words, attributes_data, who_data, wif_data, payload_data}
+use Rattle.boundary.specs.Written.{optional, items, boundary_data}
+use Rattle.boundary.proofs.WrittenBoundaries.{boundary_floatless}
+use Rattle.boundary.proofs.WrittenParts.{optional_floatless, items_floatless}
+use Rattle.access_token.specs.Payload.{nested, words_text, last_words, attributes_data, who_data, wif_data, payload_data}
 
-IsFloatless : Option Data → Type 0
-IsFloatless None = ⊤
-IsFloatless (Some d) = has_float d ≡ false
-
-optional_floatless : (name : List ℕ) (o : Option Data) (ms : Members) → IsFloatless o → members_have_float ms ≡ false → members_have_float (optional name o ms) ≡ false
-unfolding IsFloatless
-optional_floatless name None ms none rest = rest
-optional_floatless name (Some d) ms none rest = rw (none, rest) refl
-
-nested_floatless : (name : List ℕ) (names : List (List ℕ)) → IsFloatless (nested name names)
-unfolding IsFloatless
+nested_floatless : (name : List ℕ) (names : List (List ℕ)) → IfSome (nested name names) (λ d. has_float d ≡ false)
 nested_floatless name [] = tt
 nested_floatless name (x ∷ xs) = optional_floatless name (nested name xs) (member (codes "sub") (string x) no_members) (nested_floatless name xs) refl
-
-items_floatless : {A : Type 0} (write : A → Data) → ((x : A) → has_float (write x) ≡ false) → (xs : List A) → items_have_float (items write xs) ≡ false
-items_floatless write none [] = refl
-items_floatless write none (x ∷ xs) = rw (none x, items_floatless write none xs) refl
 
 attributes_floatless : (attributes : List (List ℕ × List ℕ)) → members_have_float (attributes_data attributes) ≡ false
 attributes_floatless [] = refl
@@ -45,6 +33,7 @@ wif_floatless : (facts : Facts) → has_float (wif_data facts) ≡ false
 unfolding wif_data
 wif_floatless facts = rw (
   texts_floatless facts.accounts,
+  items_floatless boundary_data boundary_floatless facts.bounds,
   items_floatless (λ pool. string (pool_text pool)) (λ pool. refl) facts.pools,
   items_floatless (λ words. string (words_text words)) (λ words. refl) facts.scopes,
   who_floatless facts.who,

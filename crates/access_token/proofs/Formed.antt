@@ -4,7 +4,7 @@ use Rattle.std.specs.List.{list_all, slice_split}
 use Rattle.std.specs.Str.Parse.{digits_value}
 use Rattle.std.proofs.lemmas.Bool.{le-leb}
 use Rattle.std.proofs.lemmas.Option.{same_Some, cond_some, option_and_then_some}
-use Rattle.serde_json.specs.Data.{Data, Items, Members, no_items, item, no_members, member}
+use Rattle.serde_json.specs.Data.{Data, Members, no_members, member}
 use Rattle.serde_json.specs.Find.{get, as_str, as_array, as_object}
 use Rattle.json_text.specs.Arrays.{each, list_at}
 use Rattle.json_text.specs.Document.{text_at, texts_at, whole_number_at}
@@ -16,27 +16,22 @@ use Rattle.iam_names.specs.PoolName.{pool_of, pool_of_text, is_pool_name}
 use Rattle.iam_names.specs.declared.pool_name.PoolName.{PoolName}
 use Rattle.iam_names.specs.declared.who.Who.{Who}
 use Rattle.iam_names.specs.declared.who.Who.TheVariants.{Account}
+use Rattle.boundary.specs.Exact.{is_boundary}
+use Rattle.boundary.specs.Written.{listed_boundary}
+use Rattle.boundary.proofs.Formed.{each-formed, listed_boundary-is}
 use Rattle.access_token.specs.declared.facts.Facts.{Facts}
 use Rattle.access_token.specs.declared.parties.Parties.{Parties}
 use Rattle.access_token.specs.declared.wif.Wif.{Wif}
 use Rattle.access_token.specs.Forms.{is_name, is_attribute, is_who, are_words, is_facts}
-use Rattle.access_token.specs.Parts.{formed, names_in, act_in, may_act_in, date_in, number_in, sub_in, account_in, scope_in, scopes_in, pool_in, attributes_in, attributes_at, groups_at, pool_at, subject_at, outside_in, who_by, who_in, parties_in, wif_in, facts_in}
+use Rattle.access_token.specs.Parts.{formed, names_in, act_in, may_act_in, date_in, number_in, sub_in, account_in, words_in, scope_in, scopes_in, pool_in, attributes_in, attributes_at, groups_at, pool_at, subject_at, outside_in, who_by, who_in, parties_in, wif_in, facts_in}
 use Rattle.access_token.proofs.Options.{formed-is, option_map_some, bound, all-more}
 
 -- ---- lists
 
-each-all : {A : Type 0} (form : A → Bool) (read : Data → Option A) → ((d : Data) (x : A) → read d ≡ Some x → form x ≡ true)
-    → (ds : Items) (xs : List A) → each read ds ≡ Some xs → list_all form xs ≡ true
-each-all form read is no_items xs h = ap (list_all form) (sym (same_Some [] xs h))
-each-all form read is (item d ds) xs h =
-    option_and_then_some (λ x. option_map (λ more. x ∷ more) (each read ds)) (read d) xs h (λ x there k.
-    option_map_some (λ more. x ∷ more) (each read ds) xs k (λ more rest whole.
-    ap (list_all form) (sym whole) ∙ all-more form x more (is d x there) (each-all form read is ds more rest)))
-
 list-all : {A : Type 0} (form : A → Bool) (read : Data → Option A) → ((d : Data) (x : A) → read d ≡ Some x → form x ≡ true)
     → (name : List ℕ) (d : Data) (xs : List A) → list_at read name d ≡ Some xs → list_all form xs ≡ true
 list-all form read is name d xs h =
-    option_and_then_some (each read) (option_and_then as_array (get name d)) xs h (λ ds there k. each-all form read is ds xs k)
+    option_and_then_some (each read) (option_and_then as_array (get name d)) xs h (λ ds there k. (each-formed form read is ds xs k).0)
 
 names-few : (name : List ℕ) (n : ℕ) (o : Option Data) (names : List (List ℕ)) → names_in name n o ≡ Some names → length names ≤ n
 names-few name n None names h = omega (arith, ap length (same_Some [] names h))
@@ -109,16 +104,19 @@ pub record AreFormed (facts : Facts) : Type 0 where
   pub accounts : list_all is_account facts.accounts ≡ true
   pub scopes_some : nat_le 1 (length facts.scopes) ≡ true
   pub scopes : list_all are_words facts.scopes ≡ true
+  pub bounds : list_all is_boundary facts.bounds ≡ true
 
 is_facts-from : (facts : Facts) → AreFormed facts → is_facts facts ≡ true
 unfolding is_facts
-is_facts-from facts f = rw (f.number, f.sub, f.iat, f.exp, f.who, f.act_few, f.act, f.may_act_few, f.may_act, f.pools, f.accounts, f.scopes_some, f.scopes) refl
+is_facts-from facts f =
+    rw (f.number, f.sub, f.iat, f.exp, f.who, f.act_few, f.act, f.may_act_few, f.may_act, f.pools, f.accounts, f.scopes_some, f.scopes, f.bounds) refl
 
 abbrev is_date : ℕ → Bool
 is_date seconds = nat_lt seconds (2 ^ 53)
 
 scope_in-is : (d : Data) (words : List (List ℕ)) → scope_in d ≡ Some words → are_words words ≡ true
-scope_in-is d words h = (formed-is are_words (option_map (slice_split (λ byte. byte == 32)) (as_str d)) words h).1
+scope_in-is d words h =
+    option_and_then_some words_in (as_str d) words h (λ text there k. (formed-is are_words (Some (slice_split (λ byte. byte == 32) text)) words k).1)
 
 -- the form of each name of the parties
 record AreFormedParties (parties : Parties) : Type 0 where
@@ -152,23 +150,42 @@ record IsFormedWif (wif : Wif) : Type 0 where
   accounts : list_all is_account wif.accounts ≡ true
   scopes_some : nat_le 1 (length wif.scopes) ≡ true
   scopes : list_all are_words wif.scopes ≡ true
+  bounds : list_all is_boundary wif.bounds ≡ true
 
 wif_in-is : (d : Data) (wif : Wif) → wif_in d ≡ Some wif → IsFormedWif wif
 unfolding wif_in
 wif_in-is d wif h =
     bound _ (list_at account_in (codes "accounts") d) wif h (λ accounts accounts_is h.
+    bound _ (list_at listed_boundary (codes "bounds") d) wif h (λ bounds bounds_is h.
     bound _ (list_at pool_in (codes "pools") d) wif h (λ pools pools_is h.
     bound _ (scopes_in d) wif h (λ scopes scopes_is h.
     bound _ (option_and_then who_in (get (codes "who") d)) wif h (λ who who_is h.
     let some = formed-is (λ scopes. nat_le 1 (length scopes)) (list_at scope_in (codes "scopes") d) scopes scopes_is in
-    let told : IsFormedWif (record { who = who; pools = pools; accounts = accounts; scopes = scopes }) = record {
+    let told : IsFormedWif (record { who = who; pools = pools; accounts = accounts; scopes = scopes; bounds = bounds }) = record {
       who = option_and_then_some who_in (get (codes "who") d) who who_is (λ e there k. who_in-is e who k);
       pools = list-all is_pool_name pool_in pool_in-is (codes "pools") d pools pools_is;
       accounts = list-all is_account account_in (λ e account k. (formed-is is_account (as_str e) account k).1) (codes "accounts") d accounts accounts_is;
       scopes_some = some.1;
       scopes = list-all are_words scope_in scope_in-is (codes "scopes") d scopes some.0;
+      bounds = list-all is_boundary listed_boundary listed_boundary-is (codes "bounds") d bounds bounds_is;
     } in
-    rw (← same_Some _ wif h) told))))
+    rw (← same_Some _ wif h) told)))))
+
+-- the facts of their parts
+abbrev pub facts_of : ℕ → ℕ → ℕ → Parties → Wif → Facts
+facts_of exp iat number parties wif = record {
+  number = number;
+  sub = parties.sub;
+  iat = iat;
+  exp = exp;
+  act = parties.act;
+  may_act = parties.may_act;
+  who = wif.who;
+  pools = wif.pools;
+  accounts = wif.accounts;
+  scopes = wif.scopes;
+  bounds = wif.bounds;
+}
 
 pub facts_in-is : (d : Data) (facts : Facts) → facts_in d ≡ Some facts → is_facts facts ≡ true
 unfolding facts_in
@@ -180,7 +197,7 @@ facts_in-is d facts h =
     bound _ (option_and_then wif_in (get (codes "wif") d)) facts h (λ wif wif_is h.
     let named = parties_in-is d parties parties_is in
     let used : IsFormedWif wif = option_and_then_some wif_in (get (codes "wif") d) wif wif_is (λ e there k. wif_in-is e wif k) in
-    let told : AreFormed (record { number = number; sub = parties.sub; iat = iat; exp = exp; act = parties.act; may_act = parties.may_act; who = wif.who; pools = wif.pools; accounts = wif.accounts; scopes = wif.scopes }) = record {
+    let told : AreFormed (facts_of exp iat number parties wif) = record {
       number = (formed-is (λ n. nat_lt n (2 ^ 32)) (option_map (digits_value 10) (text_at (codes "jti") d)) number number_is).1;
       sub = named.sub;
       iat = (formed-is is_date (whole_number_at (codes "iat") d) iat iat_is).1;
@@ -194,5 +211,6 @@ facts_in-is d facts h =
       accounts = used.accounts;
       scopes_some = used.scopes_some;
       scopes = used.scopes;
+      bounds = used.bounds;
     } in
     ap is_facts (sym (same_Some _ facts h)) ∙ is_facts-from _ told)))))

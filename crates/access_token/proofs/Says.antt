@@ -28,7 +28,8 @@ apart facts h =
     let may_act = both _ _ act.1 in
     let pools = both _ _ may_act.1 in
     let accounts = both _ _ pools.1 in
-    let scopes = both _ _ accounts.1 in
+    let limits = both _ _ accounts.1 in
+    let scopes = both _ _ limits.0 in
     record {
       number = number.0;
       sub = sub.0;
@@ -43,6 +44,7 @@ apart facts h =
       accounts = accounts.0;
       scopes_some = scopes.0;
       scopes = scopes.1;
+      bounds = limits.1;
     }
 
 pub text_back : (issuer : List ℕ) (facts : Facts) → IsExact issuer facts → is_facts facts ≡ true → payload_facts issuer (payload_text issuer facts) ≡ Some facts
@@ -52,7 +54,7 @@ text_back issuer facts is form =
     let same : bytes_eq text text ≡ true = (bytes_eq-Decides text text).1 refl in
     let test = λ (g : Facts). bytes_eq (payload_text issuer g) text in
     ap (λ (o : Option Data). formed test (option_and_then facts_in o)) (document-payload_text issuer facts is)
-    ∙ ap (λ (o : Option Facts). formed test o) (facts_back issuer facts (apart facts form))
+    ∙ ap (λ (o : Option Facts). formed test o) (facts_back issuer facts (apart facts form) is.bounds)
     ∙ rw same refl
 
 -- and a text that says facts is their text

@@ -1,13 +1,12 @@
 -- The texts in the tree of exact facts are UTF-8.
-use Rattle.std.proofs.Common.{ℕ, List, [], ◌∷◌, ◌++◌, refl, arith, Option, Some, None, codes}
-use Rattle.std.specs.Prelude.{⊤}
+use Rattle.std.proofs.Common.{ℕ, List, [], ◌∷◌, ◌++◌, refl, arith, IfSome, codes}
 use Rattle.std.specs.List.{AllByRecursion}
 use Rattle.std.specs.Str.{IsUtf8}
 use Rattle.std.specs.Fmt.{decimal}
 use Rattle.std.proofs.lemmas.Str.{IsUtf8-append, IsUtf8-nil, IsUtf8-from_ascii}
 use Rattle.std.proofs.lemmas.Fmt.{IsAscii-decimal}
 use Rattle.json.proofs.Printed.Utf8.{IsUtf8-are_ascii}
-use Rattle.serde_json.specs.Data.{Data, Members, number, unsigned, string, no_members, member}
+use Rattle.serde_json.specs.Data.{number, unsigned, string, no_members, member}
 use Rattle.json_text.specs.Clean.{HasUtf8, ItemsHaveUtf8, MembersHaveUtf8}
 use Rattle.iam_names.specs.declared.pool_name.PoolName.{PoolName}
 use Rattle.iam_names.specs.declared.who.Who.{Who}
@@ -15,23 +14,13 @@ use Rattle.iam_names.specs.declared.who.Who.TheVariants.{Outside, Account}
 use Rattle.iam_names.specs.PoolName.{pool_text}
 use Rattle.access_token.specs.Exact.{AreUtf8, IsExactPool, IsExactWho, IsExact}
 use Rattle.access_token.specs.declared.facts.Facts.{Facts}
-use Rattle.access_token.specs.Payload.{optional, items, nested, words_text, last_words, attributes_data, who_data, wif_data, payload_data}
+use Rattle.boundary.specs.Exact.{IsExactBoundary}
+use Rattle.boundary.specs.Written.{optional, items, boundary_data}
+use Rattle.boundary.proofs.WrittenBoundaries.{boundary_utf8}
+use Rattle.boundary.proofs.WrittenParts.{optional_utf8, items_utf8}
+use Rattle.access_token.specs.Payload.{nested, words_text, last_words, attributes_data, who_data, wif_data, payload_data}
 
-HasUtf8If : Option Data → Type 0
-HasUtf8If None = ⊤
-HasUtf8If (Some d) = HasUtf8 d
-
-optional_utf8 : (k : List ℕ) (o : Option Data) (ms : Members) → IsUtf8 k → HasUtf8If o → MembersHaveUtf8 ms → MembersHaveUtf8 (optional k o ms)
-unfolding HasUtf8If
-optional_utf8 k None ms name some rest = rest
-optional_utf8 k (Some d) ms name some rest = (name, some, rest)
-
-items_utf8 : {A : Type 0} (write : A → Data) (P : A → Type 0) → ((x : A) → P x → HasUtf8 (write x)) → (xs : List A) → AllByRecursion P xs → ItemsHaveUtf8 (items write xs)
-items_utf8 write P each [] all = tt
-items_utf8 write P each (x ∷ xs) all = (each x all.0, items_utf8 write P each xs all.1)
-
-nested_utf8 : (k : List ℕ) (names : List (List ℕ)) → IsUtf8 k → AreUtf8 names → HasUtf8If (nested k names)
-unfolding HasUtf8If
+nested_utf8 : (k : List ℕ) (names : List (List ℕ)) → IsUtf8 k → AreUtf8 names → IfSome (nested k names) HasUtf8
 nested_utf8 k [] name all = tt
 nested_utf8 k (x ∷ xs) name all =
     optional_utf8 k (nested k xs) (member (codes "sub") (string x) no_members) name (nested_utf8 k xs name all.1) (IsUtf8-are_ascii (codes "sub") refl, all.0, tt)
@@ -82,7 +71,7 @@ wif_utf8 issuer facts is = (
   texts_utf8 facts.accounts is.accounts,
   (
     IsUtf8-are_ascii (codes "bounds") refl,
-    tt,
+    items_utf8 boundary_data IsExactBoundary boundary_utf8 facts.bounds is.bounds,
     (
       IsUtf8-are_ascii (codes "pools") refl,
       items_utf8 (λ pool. string (pool_text pool)) IsExactPool pool_utf8 facts.pools is.pools,

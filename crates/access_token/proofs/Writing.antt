@@ -5,11 +5,8 @@ use Rattle.std.specs.declared.cmp.Ordering.TheVariants.{Less}
 use Rattle.std.specs.Cmp.Lexicographic.{slice_cmp}
 use Rattle.std.specs.List.{AllByRecursion}
 use Rattle.std.specs.List.Sorted.{IsStrictlySortedBy}
-use Rattle.serde_json.specs.Data.{Data, array}
-use Rattle.serde_json.specs.View.{view, items_of}
-use Rattle.serde_json.specs.declared.value.Value.{Value}
 use Rattle.json_text.specs.Clean.{HasCleanMembers, AreAfter}
-use Rattle.access_token.specs.Payload.{items, words_text, last_words, attributes_data}
+use Rattle.access_token.specs.Payload.{words_text, last_words, attributes_data}
 
 -- words, each with a space before it
 abbrev pub spaced : List (List ℕ) → List ℕ
@@ -19,14 +16,6 @@ spaced (word ∷ words) = 32 ∷ (word ++ spaced words)
 pub words_text-spaced : (word : List ℕ) (words : List (List ℕ)) → words_text (word ∷ words) ≡ word ++ spaced words
 words_text-spaced word [] = sym (append-nil word)
 words_text-spaced word (next ∷ words) = ap (λ (text : List ℕ). word ++ (32 ∷ text)) (words_text-spaced next words)
-
-pub items_mapped : {A : Type 0} (write : A → Data) (xs : List A) → items_of (map write xs) ≡ items write xs
-items_mapped write [] = refl
-items_mapped write (x ∷ xs) = rw (items_mapped write xs) refl
-
--- an array of values that were written one by one
-pub array_written : {A : Type 0} (write : A → Data) (values : List Value) (xs : List A) → map view values ≡ map write xs → array (items_of (map view values)) ≡ array (items write xs)
-array_written write values xs is = ap (λ (ds : List Data). array (items_of ds)) is ∙ ap array (items_mapped write xs)
 
 pub last_words_at : (xs : List (List (List ℕ))) → last_words xs ≡ unwrap_or (slice_get xs (length xs - 1)) []
 last_words_at [] = refl

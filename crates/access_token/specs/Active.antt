@@ -4,7 +4,8 @@ use Rattle.std.specs.Fmt.{decimal}
 use Rattle.serde_json.specs.Data.{Data, boolean, number, unsigned, string, object, member, no_members}
 use Rattle.serde_json.specs.Written.{compact_text}
 use Rattle.access_token.specs.declared.facts.Facts.{Facts}
-use Rattle.access_token.specs.Payload.{optional, nested, words_text, last_words}
+use Rattle.boundary.specs.Written.{optional}
+use Rattle.access_token.specs.Payload.{nested, words_text, last_words}
 
 -- the reply to an introspection of the token of these facts
 unfoldable pub active_data : List ℕ → Facts → Data

@@ -9,6 +9,7 @@ use Rattle.iam_names.specs.declared.identity.Identity.{Identity}
 use Rattle.iam_names.specs.declared.pool_name.PoolName.{PoolName}
 use Rattle.iam_names.specs.declared.who.Who.{Who}
 use Rattle.iam_names.specs.declared.who.Who.TheVariants.{Outside, Account}
+use Rattle.boundary.specs.Exact.{IsExactBoundary}
 use Rattle.access_token.specs.declared.facts.Facts.{Facts}
 
 -- texts of UTF-8
@@ -50,3 +51,4 @@ pub record IsExact (issuer : List ℕ) (facts : Facts) : Type 0 where
   pub pools : AllByRecursion IsExactPool facts.pools
   pub accounts : AreUtf8 facts.accounts
   pub scopes : AllByRecursion AreUtf8 facts.scopes
+  pub bounds : AllByRecursion IsExactBoundary facts.bounds

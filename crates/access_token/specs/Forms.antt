@@ -10,6 +10,7 @@ use Rattle.iam_names.specs.declared.member.Member.TheVariants as member
 use Rattle.iam_names.specs.PoolName.{is_pool_name}
 use Rattle.iam_names.specs.declared.who.Who.{Who}
 use Rattle.iam_names.specs.declared.who.Who.TheVariants.{Outside, Account}
+use Rattle.boundary.specs.Exact.{is_boundary}
 use Rattle.access_token.specs.declared.facts.Facts.{Facts}
 
 -- a name of its form, and a value of 1 to 256 bytes
@@ -51,4 +52,4 @@ is_facts facts =
     nat_lt facts.number (2 ^ 32) && (is_name facts.sub && (nat_lt facts.iat (2 ^ 53) && (nat_lt facts.exp (2 ^ 53) && (is_who facts.who
     && ((nat_le (length facts.act) 8 && list_all is_name facts.act) && (are_actors facts.may_act
     && (list_all is_pool_name facts.pools && (list_all is_account facts.accounts
-    && (nat_le 1 (length facts.scopes) && list_all are_words facts.scopes)))))))))
+    && ((nat_le 1 (length facts.scopes) && list_all are_words facts.scopes) && list_all is_boundary facts.bounds)))))))))

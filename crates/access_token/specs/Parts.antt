@@ -13,6 +13,7 @@ use Rattle.iam_names.specs.PoolName.{pool_of_text}
 use Rattle.iam_names.specs.declared.pool_name.PoolName.{PoolName}
 use Rattle.iam_names.specs.declared.who.Who.{Who}
 use Rattle.iam_names.specs.declared.who.Who.TheVariants.{Outside, Account}
+use Rattle.boundary.specs.Written.{listed_boundary}
 use Rattle.access_token.specs.declared.parties.Parties.{Parties}
 use Rattle.access_token.specs.declared.facts.Facts.{Facts}
 use Rattle.access_token.specs.declared.wif.Wif.{Wif}
@@ -56,9 +57,13 @@ account_in d = formed is_account (as_str d)
 abbrev pub pool_in : Data → Option PoolName
 pool_in d = option_and_then pool_of_text (as_str d)
 
+-- 1 to 16 scope words with one space between
+abbrev pub words_in : List ℕ → Option (List (List ℕ))
+words_in text = passing are_words (slice_split (λ byte. byte == 32) text)
+
 -- the scope words of a text
 abbrev pub scope_in : Data → Option (List (List ℕ))
-scope_in d = formed are_words (option_map (slice_split (λ byte. byte == 32)) (as_str d))
+scope_in d = option_and_then words_in (as_str d)
 
 -- the scope words of one exchange or more
 abbrev pub scopes_in : Data → Option (List (List (List ℕ)))
@@ -116,10 +121,11 @@ parties_in d = do
 unfoldable pub wif_in : Data → Option Wif
 wif_in d = do
   accounts ← list_at account_in (codes "accounts") d
+  bounds ← list_at listed_boundary (codes "bounds") d
   pools ← list_at pool_in (codes "pools") d
   scopes ← scopes_in d
   who ← option_and_then who_in (get (codes "who") d)
-  Some (record { who = who; pools = pools; accounts = accounts; scopes = scopes })
+  Some (record { who = who; pools = pools; accounts = accounts; scopes = scopes; bounds = bounds })
 
 -- the facts of a tree
 unfoldable pub facts_in : Data → Option Facts
@@ -140,4 +146,5 @@ facts_in d = do
     pools = wif.pools;
     accounts = wif.accounts;
     scopes = wif.scopes;
+    bounds = wif.bounds;
   })

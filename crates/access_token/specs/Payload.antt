@@ -1,22 +1,13 @@
 -- The payload of a token: its JSON tree and its text.
 use Rattle.std.specs.Prelude.{ℕ, List, [], ◌∷◌, ◌++◌, Option, Some, None, codes}
 use Rattle.std.specs.Fmt.{decimal}
-use Rattle.serde_json.specs.Data.{Data, Items, Members, number, unsigned, string, array, object, no_items, item, no_members, member}
+use Rattle.serde_json.specs.Data.{Data, Members, number, unsigned, string, array, object, no_members, member}
 use Rattle.serde_json.specs.Written.{compact_text}
 use Rattle.iam_names.specs.declared.who.Who.{Who}
 use Rattle.iam_names.specs.declared.who.Who.TheVariants.{Outside, Account}
 use Rattle.iam_names.specs.PoolName.{pool_text}
+use Rattle.boundary.specs.Written.{optional, items, boundary_data}
 use Rattle.access_token.specs.declared.facts.Facts.{Facts}
-
--- a member that may be left out
-abbrev pub optional : List ℕ → Option Data → Members → Members
-optional name None members = members
-optional name (Some d) members = member name d members
-
--- the items of an array, each written
-abbrev pub items : {A : Type 0} → (A → Data) → List A → Items
-items write [] = no_items
-items write (x ∷ xs) = item (write x) (items write xs)
 
 -- an array of texts
 abbrev pub texts : List (List ℕ) → Data
@@ -57,7 +48,7 @@ who_data (Account account) = object (member (codes "account") (string account) n
 unfoldable pub wif_data : Facts → Data
 wif_data facts = object (
     member (codes "accounts") (texts facts.accounts) (
-    member (codes "bounds") (array no_items) (
+    member (codes "bounds") (array (items boundary_data facts.bounds)) (
     member (codes "pools") (array (items (λ pool. string (pool_text pool)) facts.pools)) (
     member (codes "scopes") (array (items (λ words. string (words_text words)) facts.scopes)) (
     member (codes "who") (who_data facts.who) no_members)))))

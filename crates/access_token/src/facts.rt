@@ -1,4 +1,5 @@
 use base_types::{Items, Text};
+use boundary::Boundary;
 use iam_names::{Account, PoolName, ScopeWord, Who};
 
 /// What an access token says beside its issuer (RFC 7519; RFC 8693, section 4). Its scope is the last list of scope words.
@@ -24,4 +25,6 @@ pub struct Facts {
     pub accounts: Items<Account>,
     /// The words of each exchange, the last one last.
     pub scopes: Items<Items<ScopeWord>>,
+    /// The access boundary of each exchange that set one, the last one last.
+    pub bounds: Items<Boundary>,
 }

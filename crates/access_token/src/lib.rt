@@ -20,3 +20,4 @@ pub use facts::Facts;
 pub use laws::{payload_says_its_facts, payload_tells_its_number};
 pub use payload::{last_words, subject_name, words_text, write_payload};
 pub use reading::{PayloadFault, read_payload};
+pub use scopes::read_words;

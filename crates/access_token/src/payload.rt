@@ -3,16 +3,18 @@ ghost use Rattle.std.specs.Cmp.Lexicographic.{slice_cmp};
 ghost use Rattle.std.specs.Ordering.{nat_cmp};
 ghost use Rattle.std.specs.String.{string_bytes};
 ghost use Rattle.std.specs.declared.cmp.Ordering.TheVariants.{Less};
-ghost use Rattle.serde_json.specs.Data.{string, array, object, member, no_members, no_items};
+ghost use Rattle.serde_json.specs.Data.{string, array, object, member, no_members};
 ghost use Rattle.serde_json.specs.View.{view, members_view};
 ghost use Rattle.iam_names.specs.PoolName.{pool_text};
 ghost use Rattle.iam_names.specs.declared.who.Who.{Who as Whom};
 ghost use Rattle.access_token.specs.Facts.{name_of};
-ghost use Rattle.access_token.specs.Payload.{items, optional, texts, nested, words_text as joined, last_words as last_of};
+ghost use Rattle.boundary.specs.Written.{items, optional, boundary_data};
+ghost use Rattle.access_token.specs.Payload.{texts, nested, words_text as joined, last_words as last_of};
 ghost use Rattle.access_token.specs.Payload.{attributes_data, who_data, wif_data, payload_data, payload_text};
 
 use crate::Facts;
 use base_types::{Items, Text, TextMap};
+use boundary::{Boundary, boundary_value};
 use iam_names::{Account, Identity, PoolName, ScopeWord, Who};
 use json_text::put_text;
 use serde_json::{Map, Value};
@@ -150,10 +152,14 @@ fn who_value(alloc: Global, who: &Who) -> Result<Value, AllocError>
     }
 }
 
-fn no_bounds(alloc: Global) -> Value
-    ensures { view result ≡ array no_items }
+fn bounds_value(alloc: Global, bounds: &[Boundary]) -> Result<Value, AllocError>
+    ensures { IfOk result (λ value. view value ≡ array (items boundary_data bounds.now)) }
 {
-    Value::Array(Vec::new(alloc))
+    let mut list = Vec::new(alloc);
+    for boundary in bounds {
+        serde_json::push(&mut list, boundary_value(alloc, boundary)?)?;
+    }
+    Ok(Value::Array(list))
 }
 
 #[tactic(auto, unfolding(crate::specs::Payload::wif_data))]
@@ -163,7 +169,8 @@ fn wif_value(alloc: Global, facts: &Facts) -> Result<Value, AllocError>
     let mut members = Map::new(alloc);
     let accounts = accounts_value(alloc, facts.accounts.as_slice())?;
     serde_json::put(&mut members, alloc, "accounts", accounts)?;
-    serde_json::put(&mut members, alloc, "bounds", no_bounds(alloc))?;
+    let bounds = bounds_value(alloc, facts.bounds.as_slice())?;
+    serde_json::put(&mut members, alloc, "bounds", bounds)?;
     let pools = pools_value(alloc, facts.pools.as_slice())?;
     serde_json::put(&mut members, alloc, "pools", pools)?;
     let scopes = scopes_value(alloc, facts.scopes.as_slice())?;

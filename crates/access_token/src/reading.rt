@@ -98,5 +98,6 @@ fn facts_of(alloc: Global, json: &Value) -> Result<Facts, ReadFault>
         pools: wif.pools,
         accounts: wif.accounts,
         scopes: wif.scopes,
+        bounds: wif.bounds,
     })
 }

@@ -4,7 +4,7 @@ ghost use Rattle.serde_json.specs.View.{view};
 ghost use Rattle.base_types.specs.Forms.{passing};
 ghost use Rattle.iam_names.specs.Forms.{is_scope_word};
 ghost use Rattle.json_text.specs.Reads.{Reads};
-ghost use Rattle.access_token.specs.Parts.{scope_in, scopes_in};
+ghost use Rattle.access_token.specs.Parts.{scope_in, scopes_in, words_in};
 
 use crate::names::named;
 use base_types::Items;
@@ -42,13 +42,19 @@ impl ReadsJson for ScopeItem {
     }
 }
 
-/// At most 16 words with one space between.
 fn scope_of(alloc: Global, json: &Value) -> Result<Items<ScopeWord>, ReadFault>
     ensures { Reads result (scope_in (view json.now)) }
 {
-    let Some(text) = json.as_str() else {
-        return Err(ReadFault::Form);
-    };
+    match json.as_str() {
+        Some(text) => read_words(alloc, text),
+        None => Err(ReadFault::Form),
+    }
+}
+
+/// 1 to 16 scope words with one space between (RFC 6749, section 3.3).
+pub fn read_words(alloc: Global, text: &str) -> Result<Items<ScopeWord>, ReadFault>
+    ensures { Reads result (words_in text.now) }
+{
     let words = words_of(alloc, text)?;
     if words.len() <= MAX_WORDS {
         Ok(words)

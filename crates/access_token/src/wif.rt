@@ -8,6 +8,7 @@ use crate::names::named;
 use crate::scopes::scopes_at;
 use crate::who::who_at;
 use base_types::{Items, both};
+use boundary::{Boundary, read_listed};
 use iam_names::{Account, PoolName, ScopeWord, Who};
 use json_text::{ReadFault, ReadsJson, list_at};
 use serde_json::Value;
@@ -20,6 +21,7 @@ pub(crate) struct Wif {
     pub(crate) pools: Items<PoolName>,
     pub(crate) accounts: Items<Account>,
     pub(crate) scopes: Items<Items<ScopeWord>>,
+    pub(crate) bounds: Items<Boundary>,
 }
 
 /// What the private claim `wif` of a payload says.
@@ -38,14 +40,32 @@ fn wif_of(alloc: Global, json: &Value) -> Result<Wif, ReadFault>
 {
     let accounts = list_at::<AccountItem>(alloc, json, "accounts");
     let pools = list_at::<PoolItem>(alloc, json, "pools");
+    let bounds = list_at::<BoundaryItem>(alloc, json, "bounds");
     let used = both(scopes_at(alloc, json), who_at(alloc, json));
-    let ((accounts, pools), (scopes, who)) = both(both(accounts, pools), used)?;
+    let limits = both(bounds, both(accounts, pools));
+    let ((bounds, (accounts, pools)), (scopes, who)) = both(limits, used)?;
     Ok(Wif {
         who,
         pools,
         accounts,
         scopes,
+        bounds,
     })
+}
+
+/// The form of a boundary.
+struct BoundaryItem;
+
+impl ReadsJson for BoundaryItem {
+    ghost use Rattle.boundary.specs.Written.{listed_boundary};
+
+    type Item = Boundary;
+
+    ghost meaning = { listed_boundary };
+
+    fn read_json(alloc: Global, json: &Value) -> Result<Boundary, ReadFault> {
+        read_listed(alloc, json)
+    }
 }
 
 /// The form of an account.

@@ -1,5 +1,5 @@
 -- Rules that are read one after another, and how many there are.
-use Rattle.std.proofs.Common.{◌≡◌, ℕ, ◌<◌, ◌≤◌, true, false, nat_lt, nat_le, List, ◌++◌, length, Result, Ok, Err, refl, arith}
+use Rattle.std.proofs.Common.{◌≡◌, ℕ, ◌<◌, ◌≤◌, true, false, nat_lt, nat_le, List, ◌++◌, length, Result, Ok, Err, refl, ap, ◌∙◌, arith}
 use Rattle.std.proofs.lemmas.Bool.Decides.{nat_tests}
 use Rattle.serde_json.specs.Data.{Items}
 use Rattle.serde_json.specs.View.{items_view}
@@ -45,6 +45,10 @@ many-items items h = many (items_view items) (rw (count_view items) (above (leng
 
 pub few-items : (items : List Value) → 0 < length items → length items ≤ 10 → boundary_in (items_view items) ≡ of_rules (rules_from 0 (items_view items))
 few-items items some h = few (items_view items) (rw (count_view items) (above (length items) some)) (rw (count_view items) (within (length items) h))
+
+pub some-read : (items : List Value) (rules : List Rule) → 0 < length items → length items ≤ 10 → rules_from 0 (items_view items) ≡ Ok rules
+    → boundary_in (items_view items) ≡ Ok (record { rules = rules })
+some-read items rules some h read = few-items items some h ∙ ap of_rules read
 
 -- what refuses the rules refuses the boundary
 pub refuses-rules : (error : BoundaryError) (read : Result (List Rule) Refusal) → Refuses error read → Refuses error (of_rules read)

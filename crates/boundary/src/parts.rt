@@ -1,7 +1,8 @@
-ghost use Rattle.std.specs.Prelude.{◌≡◌, IfOk, option_map};
+ghost use Rattle.std.specs.Prelude.{◌≡◌, IfOk, IfSome, option_map};
 ghost use Rattle.serde_json.specs.View.{view};
 ghost use Rattle.json_text.specs.Reads.{Reads};
 ghost use Rattle.boundary.specs.Boundaries as form;
+ghost use Rattle.boundary.specs.Exact.{IsSaid};
 
 use allow_policy::condition_names;
 use base_types::Items;
@@ -82,8 +83,10 @@ pub(crate) fn roles_at(alloc: Global, json: &Value) -> Result<Items<Role>, ReadF
     }
 }
 
-fn condition_in(alloc: Global, text: &str) -> Result<Option<Expression>, AllocError>
-    ensures { IfOk result (λ found. found ≡ form.condition_in text.now) }
+/// The condition that a text says, where it says one.
+pub(crate) fn condition_in(alloc: Global, text: &str) -> Result<Option<Expression>, AllocError>
+    ensures read { IfOk result (λ found. found ≡ form.condition_in text.now) }
+    ensures said { IfOk result (λ found. IfSome found IsSaid) }
 {
     let names = condition_names(alloc)?;
     let found = read_expression(alloc, text, names.as_slice(), &CelType::Bool);
@@ -92,7 +95,8 @@ fn condition_in(alloc: Global, text: &str) -> Result<Option<Expression>, AllocEr
 }
 
 fn condition_of(alloc: Global, json: Option<&Value>) -> Result<Option<Expression>, ReadFault>
-    ensures { Reads result (form.condition_of (option_map (λ json. view json.now) json.entry)) }
+    ensures read { Reads result (form.condition_of (option_map (λ json. view json.now) json.entry)) }
+    ensures said { IfOk result (λ condition. IfSome condition IsSaid) }
 {
     let Some(json) = json else {
         return Ok(None);
@@ -108,7 +112,8 @@ fn condition_of(alloc: Global, json: Option<&Value>) -> Result<Option<Expression
 
 /// The condition under `availabilityCondition`, which may be absent.
 pub(crate) fn condition_at(alloc: Global, json: &Value) -> Result<Option<Expression>, ReadFault>
-    ensures { Reads result (form.condition_at (view json.now)) }
+    ensures read { Reads result (form.condition_at (view json.now)) }
+    ensures said { IfOk result (λ condition. IfSome condition IsSaid) }
 {
     condition_of(alloc, json.get("availabilityCondition"))
 }

@@ -1,4 +1,5 @@
 ghost use Rattle.std.specs.Prelude.{◌≡◌, ◌⊎◌, ℕ, Option, Ok, Err, IfOk};
+ghost use Rattle.std.specs.List.{AllByRecursion};
 ghost use Rattle.serde_json.specs.View.{view, items_view};
 ghost use Rattle.base_types.specs.Steps.{needed as needed_at};
 ghost use Rattle.json_text.specs.Reads.{Reads};
@@ -6,6 +7,8 @@ ghost use Rattle.boundary.specs.declared.rules.Boundary.{Boundary as Limits};
 ghost use Rattle.boundary.specs.declared.fault.BoundaryError.TheVariants.{Fault, Memory};
 ghost use Rattle.boundary.specs.Answers.{Gives};
 ghost use Rattle.boundary.specs.Boundaries as form;
+ghost use Rattle.boundary.specs.Exact.{AreSaid, IsExactBoundary};
+ghost use Rattle.boundary.specs.Written.{listed_boundary};
 
 use crate::fault::{BoundaryCause, BoundaryError};
 use crate::parts::{condition_at, resource_at, roles_at};
@@ -23,7 +26,8 @@ fn needed<T: Drop>(
     rule: usize,
     cause: BoundaryCause,
 ) -> Result<T, BoundaryError>
-    ensures { (there : Option T) → Reads read there → Gives result (needed_at (form.refusal rule cause) there) }
+    ensures gives { (there : Option T) → Reads read there → Gives result (needed_at (form.refusal rule cause) there) }
+    ensures same { IfOk result (λ value. read ≡ Ok value) }
 {
     match read {
         Ok(value) => Ok(value),
@@ -34,7 +38,8 @@ fn needed<T: Drop>(
 
 #[tactic(auto, unfolding(crate::specs::Boundaries::rule_of))]
 fn read_rule(alloc: Global, number: usize, json: &Value) -> Result<Rule, BoundaryError>
-    ensures { Gives result (form.rule_of number (view json.now)) }
+    ensures read { Gives result (form.rule_of number (view json.now)) }
+    ensures said { IfOk result AreSaid }
 {
     let resource = needed(resource_at(alloc, json), number, BoundaryCause::Resource);
     let roles = needed(roles_at(alloc, json), number, BoundaryCause::Permission);
@@ -48,7 +53,8 @@ fn read_rule(alloc: Global, number: usize, json: &Value) -> Result<Rule, Boundar
 }
 
 fn read_rules(alloc: Global, items: &[Value]) -> Result<Items<Rule>, BoundaryError>
-    ensures { Gives result (form.rules_from 0 (items_view items.now)) }
+    ensures read { Gives result (form.rules_from 0 (items_view items.now)) }
+    ensures said { IfOk result (λ rules. AllByRecursion AreSaid rules) }
 {
     let mut rules = Items::new(alloc);
     for (number, item) in items.iter().enumerate() {
@@ -59,7 +65,8 @@ fn read_rules(alloc: Global, items: &[Value]) -> Result<Items<Rule>, BoundaryErr
 
 #[tactic(auto, unfolding(crate::specs::Boundaries::boundary_in))]
 fn boundary_in(alloc: Global, items: &[Value]) -> Result<Boundary, BoundaryError>
-    ensures { Gives result (form.boundary_in (items_view items.now)) }
+    ensures read { Gives result (form.boundary_in (items_view items.now)) }
+    ensures exact { IfOk result IsExactBoundary }
 {
     if items.is_empty() {
         return Err(BoundaryError::Fault {
@@ -79,7 +86,8 @@ fn boundary_in(alloc: Global, items: &[Value]) -> Result<Boundary, BoundaryError
 
 #[tactic(auto, unfolding(crate::specs::Boundaries::boundary_of))]
 fn boundary_from(alloc: Global, json: &Value) -> Result<Boundary, BoundaryError>
-    ensures { Gives result (form.boundary_of (view json.now)) }
+    ensures read { Gives result (form.boundary_of (view json.now)) }
+    ensures exact { IfOk result IsExactBoundary }
 {
     match json.get("accessBoundaryRules").and_then(Value::as_array) {
         Some(items) => boundary_in(alloc, items.as_slice()),
@@ -106,6 +114,23 @@ pub fn read_boundary(alloc: Global, json: &Value) -> Result<Boundary, BoundaryEr
         → (result ≡ Ok boundary) ⊎ (result ≡ Err Memory) }
     ensures faulty { (refusal : form.Refusal) → form.boundary_of (view json.now) ≡ Err refusal
         → (result ≡ Err (Fault refusal.rule refusal.cause)) ⊎ (result ≡ Err Memory) }
+    ensures exact { IfOk result IsExactBoundary }
 {
     boundary_from(alloc, json)
+}
+
+/// The boundary that a JSON array of rules is, as tokens and the journal hold it.
+#[tactic(auto, unfolding(crate::specs::Written::listed_boundary))]
+pub fn read_listed(alloc: Global, json: &Value) -> Result<Boundary, ReadFault>
+    ensures read { Reads result (listed_boundary (view json.now)) }
+    ensures exact { IfOk result IsExactBoundary }
+{
+    let Some(items) = json.as_array() else {
+        return Err(ReadFault::Form);
+    };
+    match boundary_in(alloc, items.as_slice()) {
+        Ok(boundary) => Ok(boundary),
+        Err(BoundaryError::Fault { .. }) => Err(ReadFault::Form),
+        Err(BoundaryError::Memory) => Err(ReadFault::Memory),
+    }
 }

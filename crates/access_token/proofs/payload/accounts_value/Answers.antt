@@ -2,7 +2,7 @@ use Rattle.std.proofs.Common.{◌≡◌, ◌∙◌, ap, map, take_all, arith}
 use Rattle.serde_json.specs.Data.{string}
 use Rattle.serde_json.specs.View.{view}
 use Rattle.serde_json.proofs.Views.{view-Array}
-use Rattle.access_token.proofs.Writing.{array_written}
+use Rattle.boundary.proofs.WrittenParts.{array_written}
 use Rattle.access_token.proofs.payload.accounts_value.Goals as goal
 
 pub returns : goal.returns

@@ -3,7 +3,7 @@ use Rattle.serde_json.specs.Data.{string}
 use Rattle.serde_json.specs.View.{view}
 use Rattle.serde_json.proofs.Views.{view-Array}
 use Rattle.access_token.specs.Payload.{words_text}
-use Rattle.access_token.proofs.Writing.{array_written}
+use Rattle.boundary.proofs.WrittenParts.{array_written}
 use Rattle.access_token.proofs.payload.scopes_value.Goals as goal
 
 pub returns : goal.returns

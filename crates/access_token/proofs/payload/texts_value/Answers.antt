@@ -1,7 +1,7 @@
 use Rattle.std.proofs.Common.{◌∙◌, ap}
 use Rattle.std.proofs.lemmas.Result.{IfOk-weaker}
 use Rattle.serde_json.specs.Data.{array, string}
-use Rattle.access_token.proofs.Writing.{items_mapped}
+use Rattle.boundary.proofs.WrittenParts.{items_mapped}
 use Rattle.access_token.proofs.payload.texts_value.Goals as goal
 
 pub returns : goal.returns
