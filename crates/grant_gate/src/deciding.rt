@@ -10,6 +10,7 @@ use crate::reading::carried;
 use access_token::Facts;
 use allow_policy::{granted, scope_allows};
 use base_types::Items;
+use boundary::{Boundary, allows};
 use iam_names::{Account, Permission, PoolName, Resource, ScopeWord, Who};
 use service_view::View;
 use std::alloc::{AllocError, Global};
@@ -63,12 +64,25 @@ fn decide_facts(
     if let Some(denial) = denial_of(view, facts, permission, now) {
         return Ok(denial);
     }
+    if let Some(place) = unfit_boundary(
+        alloc,
+        view,
+        facts.bounds.as_slice(),
+        permission,
+        resource,
+        now,
+    )? {
+        return Ok(Decision::Deny {
+            rule: GateRule::G8,
+            place,
+        });
+    }
     grant(alloc, view, &facts.who, permission, resource, now)
 }
 
-// The first rule that fails, but for the grant.
+// The first rule that fails, but for the boundaries and the grant.
 fn denial_of(view: &View, facts: &Facts, permission: &Permission, now: u64) -> Option<Decision>
-    ensures { result ≡ first_of (decisions.denials view.now.content facts.now permission.now now) }
+    ensures { result ≡ first_of (decisions.denials_before view.now.content facts.now permission.now now) }
 {
     if now >= facts.exp {
         return Some(denied(GateRule::G4));
@@ -142,4 +156,30 @@ fn unfit_words(view: &View, scopes: &[Items<ScopeWord>], permission: &Permission
         }
     }
     None
+}
+
+// The first boundary that doesn't allow the permission on the resource.
+fn unfit_boundary(
+    alloc: Global,
+    view: &View,
+    bounds: &[Boundary],
+    permission: &Permission,
+    resource: &Resource,
+    now: u64,
+) -> Result<Option<usize>, AllocError>
+    ensures { IfOk result (λ place. place ≡ decisions.place_failing (decisions.boundary_holds view.now.content permission.now resource.now now) bounds.now) }
+{
+    for place in 0..bounds.len() {
+        if !allows(
+            alloc,
+            &view.policies.roles,
+            &bounds[place],
+            permission,
+            resource,
+            now,
+        )? {
+            return Ok(Some(place));
+        }
+    }
+    Ok(None)
 }

@@ -16,6 +16,8 @@ pub enum GateRule {
     G6,
     /// A list of scope words doesn't allow the permission.
     G7,
+    /// An access boundary doesn't allow it.
+    G8,
     /// The permission isn't granted to the token's principal.
     G9,
 }
@@ -24,7 +26,7 @@ pub enum GateRule {
 #[derive(Clone, Copy, Debug, PartialEq, Eq)]
 pub enum Decision {
     Admit,
-    /// The first rule that fails. The place is that of the first pool, account or list of scope words that fails it,
-    /// from 0, and 0 with the other rules.
+    /// The first rule that fails. The place is that of the first pool, account, list of scope words or access boundary
+    /// that fails it, from 0, and 0 with the other rules.
     Deny { rule: GateRule, place: usize },
 }
