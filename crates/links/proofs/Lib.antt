@@ -1,3 +1,5 @@
+pub mod Attributes
+pub mod ByLists
 pub mod Chains
 pub mod Good
 pub mod GoodLinks
@@ -6,8 +8,9 @@ pub mod Issuing
 pub mod Journals
 pub mod LinkLaws
 pub mod Names
+pub mod Numbers
 pub mod Places
 mod Preparing
 pub mod Replays
-pub mod Roots
+pub mod Sound
 pub mod SourceForms

@@ -1,13 +1,13 @@
 -- The laws of links and their tokens.
-use Rattle.std.proofs.Common.{◌≡◌, ◌<◌, ◌≤◌, ◌^◌, ℕ, zero, suc, Bool, true, false, not, List, [], ◌∷◌, ◌++◌, length, refl, sym, ◌∙◌, ap, subst, arith, append_assoc, append-nil, Option, None, Some}
-use Rattle.std.specs.Prelude.{Result, Ok, Err, slice_get, option_map, option_and_then, codes}
+use Rattle.std.proofs.Common.{◌≡◌, ◌<◌, ◌≤◌, ◌^◌, ℕ, Bool, true, false, not, List, [], ◌∷◌, ◌++◌, length, refl, sym, ◌∙◌, ap, subst, arith, append_assoc}
+use Rattle.std.proofs.Common.{append-nil, Option, None, Some}
+use Rattle.std.specs.Prelude.{Result, Ok, Err, option_map, option_and_then, codes}
 use Rattle.std.specs.Result.{result_ok}
 use Rattle.std.specs.Fmt.{decimal}
 use Rattle.std.proofs.lemmas.Fmt.{decimal_injective}
 use Rattle.std.proofs.lemmas.Slice.Eq.{bytes_eq-Decides}
-use Rattle.std.proofs.lemmas.Option.{slice_get_within}
 use Rattle.base_types.specs.Named.{value_at}
-use Rattle.base_types.specs.Rules.{fails_if, first_of}
+use Rattle.base_types.specs.Rules.{fails_if}
 use Rattle.base_types.specs.Steps.{◌>>=◌, needed}
 use Rattle.base64.specs.GeneralPurpose.{IsBytes}
 use Rattle.hmac_jws.proofs.Issued.{payload_of-compact}
@@ -34,34 +34,24 @@ use Rattle.service_config.specs.Formed.{IsFormedConfig}
 use Rattle.links.specs.declared.entry.Entry.{Entry}
 use Rattle.links.specs.declared.entry.Entry.TheVariants as entry
 use Rattle.links.specs.declared.entry.Exchange.{Exchange}
+use Rattle.links.specs.declared.entry.Narrowing.{Narrowing}
 use Rattle.links.specs.declared.fault.RuleCode.{RuleCode}
 use Rattle.links.specs.declared.fault.RuleCode.TheVariants.{E14, E15}
 use Rattle.links.specs.declared.source.Source.{Source}
-use Rattle.links.specs.Chain.{Link, Chain, chains_of, chain_at}
+use Rattle.links.specs.Chain.{Link, Own, Chain, Narrowed, own_at, chains_of, chain_at}
 use Rattle.links.specs.Facts.{facts_of}
 use Rattle.links.specs.Issued.{issued_link, is_text_of}
-use Rattle.links.specs.Licence.{first_unlicensed, fault_of, Lawful, Licensed}
+use Rattle.links.specs.Licence.{first_unlicensed, fault_of, exchange_rules, size_rule, Lawful, Licensed}
 use Rattle.links.specs.Shown.{WasShown}
 use Rattle.links.specs.Sources.{claimed_by, opened, opened_by, outside_by, passed, source_by, source_of, source_of_claims, who_of_claims}
-use Rattle.links.specs.State.{Content, after, chain, content_of, federated_link, link_of, named, provider_enabled, source_at, start_of, state_after, token_text, with_link}
+use Rattle.links.specs.State.{Content, after, chain, content_of, federated_link, narrow_link, link_of, made, named, provider_enabled, source_at, start_of}
+use Rattle.links.specs.State.{state_after, token_text, with_link}
 use Rattle.links.proofs.Chains.{chain_stays}
-use Rattle.links.proofs.Issuing.{Tells, chain-there, good_at, number_is, some-told}
+use Rattle.links.proofs.Issuing.{Tells, number_is, some-told}
 use Rattle.links.proofs.GoodLinks.{exact-good}
-use Rattle.links.proofs.Journals.{IsKept, follows, lawful_kept, link_of_chain}
+use Rattle.links.proofs.Journals.{IsKept, follows, lawful_kept, good_of_chain, within_of_chain}
 use Rattle.links.proofs.Replays.{state_after-append}
-use Rattle.links.proofs.Roots.{link_chain}
-
--- ---- each link has its chain
-
-there : {A : Type 0} (xs : List A) (n : ℕ) → n < length xs → (x : A) × (slice_get xs n ≡ Some x)
-there [] n within = absurd (omega arith)
-there (x ∷ xs) zero within = (x, refl)
-there (x ∷ xs) (suc n) within = there xs n (omega arith)
-
-pub has_chain : (c : Content) (n : ℕ) → n < length c.links → (found : Chain) × (chain c n ≡ Some found)
-has_chain c n within =
-    let at = there c.links n within in
-    (link_chain n at.0, chain-there c n at.0 at.1)
+use Rattle.links.proofs.Sound.{all_pass, map_some}
 
 -- ---- the link of a token
 
@@ -73,28 +63,35 @@ tells_itself key text payload n low bytes is jti =
     let numbers : decimal n ≡ decimal m = cc (jti, other_jti, same) in
     ap (λ (k : ℕ). Some k) (decimal_injective n m (omega arith) (omega arith) numbers)
 
-token_link : (c : Content) (n : ℕ) (link : Link) → IsKept c → length c.links ≤ 2 ^ 32 → slice_get c.links n ≡ Some link
-    → issued_link c (token_text c (link_chain n link)) ≡ Some n
+token_chain : (c : Content) (n : ℕ) (found : Chain) → IsKept c → length c.links ≤ 2 ^ 32 → chain c n ≡ Some found → issued_link c (token_text c found) ≡ Some n
 unfolding token_text
-token_link c n link kept few at =
-    let within : n < length c.links = slice_get_within c.links n link at in
-    let low : n < 2 ^ 32 = omega (arith, within, few) in
-    let facts = facts_of (link_chain n link) in
+token_chain c n found kept few is =
+    let low : n < 2 ^ 32 = omega (arith, within_of_chain c n found is, few) in
+    let facts = facts_of found in
     let payload = payload_text c.issuer facts in
-    let text = token_text c (link_chain n link) in
-    let exact = exact-good c.issuer n link low kept.issuer (good_at c.links n link kept.links at) in
-    let jti = jti-payload_text c.issuer facts exact ∙ ap (λ (k : ℕ). Some (decimal k)) (number_is n link) in
+    let text = token_text c found in
+    let good = good_of_chain c n found kept is in
+    let exact = exact-good c.issuer n found low kept.issuer good in
+    let jti = jti-payload_text c.issuer facts exact ∙ ap (λ (k : ℕ). Some (decimal k)) (number_is n found good) in
     let tells = tells_itself c.key text payload n low (IsBytes-payload_text c.issuer facts exact) refl jti in
-    let same : is_text_of c text (chain c n) ≡ true = ap (is_text_of c text) (chain-there c n link at) ∙ (bytes_eq-Decides text text).1 refl in
+    let same : is_text_of c text (chain c n) ≡ true = ap (is_text_of c text) is ∙ (bytes_eq-Decides text text).1 refl in
     some-told c text (Some n) n kept few tells refl same
 
 pub issued_for : (config : Config) (journal : List Entry) (n : ℕ) (found : Chain) → IsFormedConfig config → Lawful config journal → length journal ≤ 2 ^ 32
     → chain (content_of config journal) n ≡ Some found → issued_link (content_of config journal) (token_text (content_of config journal) found) ≡ Some n
 issued_for config journal n found formed lawful few is =
     let c = content_of config journal in
-    let at = link_of_chain c n found is in
     let links : length c.links ≤ 2 ^ 32 = omega (arith, few, (follows (start_of config) journal).few) in
-    subst (λ (k : Chain). issued_link c (token_text c k) ≡ Some n) (sym at.is) (token_link c n at.link (lawful_kept config journal formed lawful) links at.there)
+    token_chain c n found (lawful_kept config journal formed lawful) links is
+
+-- ---- a narrowing
+
+pub goes_on : (c : Content) (x : Narrowing) (found : Chain) → made c (entry.Narrow x) ≡ Some found
+    → (o : Own) × (parent : Chain) × (chain c x.parent ≡ Some parent) × (found ≡ Narrowed o x.boundary parent)
+goes_on c x found is =
+    let o = own_at (length (chains_of c.links)) (narrow_link x) in
+    let from = map_some (Narrowed o x.boundary) (chain c x.parent) found is in
+    (o, from.0, from.1, sym from.2)
 
 -- ---- entries that follow
 
@@ -109,14 +106,17 @@ links_more c (e ∷ es) =
     with_more links None = ([], sym (append-nil links))
     with_more links (Some link) = (link ∷ [], refl)
 
-pub chain_follows : (config : Config) (journal more : List Entry) (n : ℕ) (found : Chain) → chain (content_of config journal) n ≡ Some found → chain (content_of config (journal ++ more)) n ≡ Some found
+pub chain_follows : (config : Config) (journal more : List Entry) (n : ℕ) (found : Chain) → chain (content_of config journal) n ≡ Some found
+    → chain (content_of config (journal ++ more)) n ≡ Some found
 chain_follows config journal more n found is =
     let c = content_of config journal in
     let links = links_more c more in
-    let whole : (content_of config (journal ++ more)).links ≡ c.links ++ links.0 = ap (λ (k : Content). k.links) (state_after-append (start_of config) journal more) ∙ links.1 in
+    let whole : (content_of config (journal ++ more)).links ≡ c.links ++ links.0 =
+    ap (λ (k : Content). k.links) (state_after-append (start_of config) journal more) ∙ links.1 in
     subst (λ (l : List Link). chain_at (chains_of l) n ≡ Some found) (sym whole) (chain_stays c.links links.0 n found is)
 
-pub token_follows : (config : Config) (journal more : List Entry) (found : Chain) → token_text (content_of config (journal ++ more)) found ≡ token_text (content_of config journal) found
+pub token_follows : (config : Config) (journal more : List Entry) (found : Chain)
+    → token_text (content_of config (journal ++ more)) found ≡ token_text (content_of config journal) found
 unfolding token_text
 token_follows config journal more found =
     let first = follows (start_of config) journal in
@@ -138,12 +138,6 @@ not_failing : (b : Bool) (rule : RuleCode) → fails_if (not b) rule ≡ None �
 not_failing true rule is = refl
 not_failing false rule is = absurd (cc is)
 
-first_none : (a b c : Option RuleCode) → first_of (a ∷ b ∷ c ∷ []) ≡ None → (a ≡ None) × (b ≡ None) × (c ≡ None)
-first_none None None None is = (refl, refl, refl)
-first_none (Some r) b c is = absurd (cc is)
-first_none None (Some r) c is = absurd (cc is)
-first_none None None (Some r) is = absurd (cc is)
-
 opened_well : (fault : Option JwsFault) (payload found : List ℕ) → opened_by fault payload ≡ Ok found → (fault ≡ None) × (payload ≡ found)
 opened_well None payload found is = (refl, cc is)
 opened_well (Some fault) payload found is = absurd (cc is)
@@ -152,7 +146,8 @@ claimed_well : (r : Result Claims ClaimFault) (claims : Claims) → claimed_by r
 claimed_well (Ok claims) found is = let same : claims ≡ found = cc is in ap (λ (c : Claims). Ok c) same
 claimed_well (Err fault) found is = absurd (cc is)
 
-from_payload : (token payload : List ℕ) (claims : Claims) → payload_of token ≡ payload → claims_of payload ≡ Ok claims → claims_of (payload_of token) ≡ Ok claims
+from_payload : (token payload : List ℕ) (claims : Claims) → payload_of token ≡ payload → claims_of payload ≡ Ok claims
+    → claims_of (payload_of token) ≡ Ok claims
 from_payload token payload claims same is = ap claims_of same ∙ is
 
 outside_well : (provider : ProviderView) (r : Result Identity MapFault) (who : Who) → outside_by provider r ≡ Ok who
@@ -173,6 +168,9 @@ record Shown (provider : ProviderView) (token : List ℕ) (now : ℕ) (s : Sourc
   admitted : IsAdmitted provider claims now identity
   source : s ≡ source_by claims (Outside provider.name.pool identity)
 
+source_is : (claims : Claims) (outside who : Who) (s : Source) → outside ≡ who → source_by claims who ≡ s → s ≡ source_by claims outside
+source_is claims outside who s same is = sym is ∙ ap (source_by claims) (sym same)
+
 shown_by : (provider : ProviderView) (token : List ℕ) (now : ℕ) (s : Source) → source_of provider token now ≡ Ok s → Shown provider token now s
 unfolding source_of source_of_claims
 shown_by provider token now s is =
@@ -189,7 +187,7 @@ shown_by provider token now s is =
       claimed = from_payload token verified.0 claims good.1 (claimed_well (claims_of verified.0) claims claimed.1);
       identity = outside.0;
       admitted = rules-passed provider claims now outside.0 outside.1;
-      source = sym source ∙ ap (λ (w : Who). source_by claims w) (sym outside.2);
+      source = source_is claims (Outside provider.name.pool outside.0) who.0 s outside.2 source;
     }
 
 source_shown : (c : Content) (x : Exchange) (s : Source) → source_at c x.provider x.token x.at ≡ Ok s → WasShown c x
@@ -207,7 +205,8 @@ source_shown c x s is =
       claimed = shown.claimed;
       identity = shown.identity;
       admitted = shown.admitted;
-      link = ap (λ (r : Result Source RuleCode). option_map (federated_link x.scope x.at) (result_ok r)) is ∙ ap (λ (t : Source). Some (federated_link x.scope x.at t)) shown.source;
+      link = ap (λ (r : Result Source RuleCode). option_map (federated_link x.scope x.at) (result_ok r)) is
+          ∙ ap (λ (t : Source). Some (federated_link x.scope x.at t)) shown.source;
     }
 
 no_fault : (r : Result Source RuleCode) → fault_of r ≡ None → (s : Source) × (r ≡ Ok s)
@@ -217,6 +216,6 @@ no_fault (Err rule) is = absurd (cc is)
 pub was_shown : (c : Content) (x : Exchange) → Licensed c (entry.Federated x) → WasShown c x
 unfolding first_unlicensed
 was_shown c x licensed =
-    let rules = first_none _ (fault_of (source_at c x.provider x.token x.at)) _ licensed in
-    let source = no_fault (source_at c x.provider x.token x.at) rules.1 in
+    let rules = all_pass (exchange_rules c x ++ size_rule c (entry.Federated x) ∷ []) licensed in
+    let source = no_fault (source_at c x.provider x.token x.at) rules.1.0 in
     source_shown c x source.0 source.1

@@ -1,6 +1,5 @@
 -- Lawful journals with one entry more.
 use Rattle.std.proofs.Common.{◌≡◌, List, [], ◌∷◌, ◌++◌, refl, ap, ◌∙◌, sym, subst}
-use Rattle.std.specs.List.{AllByRecursion}
 use Rattle.links.specs.declared.entry.Entry.{Entry}
 use Rattle.links.specs.Entries.{IsEntry}
 use Rattle.links.specs.Licence.{Licensed, LawfulFrom, Reached}
@@ -11,7 +10,8 @@ state_after-append c [] ys = refl
 state_after-append c (x ∷ xs) ys = state_after-append (after c x) xs ys
 
 -- a lawful journal, and an entry of its form that the state behind it licenses
-pub lawful-last : (c : Content) (journal : List Entry) (e : Entry) → LawfulFrom c journal → IsEntry e → Licensed (state_after c journal) e → LawfulFrom c (journal ++ e ∷ [])
+pub lawful-last : (c : Content) (journal : List Entry) (e : Entry) → LawfulFrom c journal → IsEntry e → Licensed (state_after c journal) e
+    → LawfulFrom c (journal ++ e ∷ [])
 lawful-last c [] e lawful form licensed = ((form, licensed), tt)
 lawful-last c (x ∷ journal) e lawful form licensed = (lawful.0, lawful-last (after c x) journal e lawful.1 form licensed)
 
@@ -23,8 +23,3 @@ reached-after c e is form licensed = record {
   lawful = lawful-last (start_of is.config) is.journal e is.lawful form (subst (λ (k : Content). Licensed k e) is.content licensed);
   content = ap (λ (k : Content). after k e) is.content ∙ sym (state_after-append (start_of is.config) is.journal (e ∷ []));
 }
-
--- one more with what all have
-pub good-pushed : {A : Type 0} (P : A → Type 0) (xs : List A) (x : A) → AllByRecursion P xs → P x → AllByRecursion P (xs ++ x ∷ [])
-good-pushed P [] x all is = (is, tt)
-good-pushed P (y ∷ ys) x all is = (all.0, good-pushed P ys x all.1 is)

@@ -1,10 +1,12 @@
 -- The recorded links, and the chain of each: the link together with the links that it was made from.
-use Rattle.std.specs.Prelude.{ℕ, List, [], ◌∷◌, ◌++◌, length, Option, None, Some, slice_get}
+use Rattle.std.specs.Prelude.{ℕ, List, [], ◌∷◌, ◌++◌, length, Option, None, Some, option_map, slice_get}
+use Rattle.boundary.specs.declared.rules.Boundary.{Boundary}
 use Rattle.links.specs.declared.source.Source.{Source}
 
--- what a link was made from
+-- What a link was made from: what a subject token gave, or the earlier link of that number with an access boundary, if one was set.
 pub data Kind : Type 0 where
   Federated : Source → Kind
+  Narrow : ℕ → Option Boundary → Kind
 
 -- a recorded link
 pub record Link : Type 0 where
@@ -21,10 +23,12 @@ pub record Own : Type 0 where
 -- a link with the links that it was made from, down to the subject tokens
 pub data Chain : Type 0 where
   Root : Own → Source → Chain
+  Narrowed : Own → Option Boundary → Chain → Chain
 
 -- what the last link of a chain has of its own
 abbrev pub own : Chain → Own
 own (Root o source) = o
+own (Narrowed o boundary parent) = o
 
 -- the chain of a number, where it is that of a link whose parents stand earlier
 abbrev pub joined : Option (Option Chain) → Option Chain
@@ -38,6 +42,7 @@ chain_at chains n = joined (slice_get chains n)
 -- the chain of a link of this kind, from those of the links before it
 abbrev pub chain_of_kind : Own → List (Option Chain) → Kind → Option Chain
 chain_of_kind o chains (Federated source) = Some (Root o source)
+chain_of_kind o chains (Narrow parent boundary) = option_map (Narrowed o boundary) (chain_at chains parent)
 
 -- what link n has of its own
 abbrev pub own_at : ℕ → Link → Own

@@ -1,13 +1,9 @@
 -- The link that a token's text was issued for.
-use Rattle.std.specs.Prelude.{ℕ, ◌+◌, Bool, false, List, [], ◌∷◌, Option, None, Some, option_map, if◌then◌else◌}
+use Rattle.std.specs.Prelude.{ℕ, Bool, false, List, Option, None, Some}
 use Rattle.std.specs.Str.{bytes_eq}
 use Rattle.links.specs.Chain.{Chain, chains_of}
+use Rattle.links.specs.Places.{place_of}
 use Rattle.links.specs.State.{Content, token_text}
-
--- the least place of an element that passes
-abbrev pub place_of : {A : Type 0} → (A → Bool) → List A → Option ℕ
-place_of test [] = None
-place_of test (x ∷ xs) = if test x then Some 0 else option_map (λ n. n + 1) (place_of test xs)
 
 -- the text is that of the chain's token
 abbrev pub is_text_of : Content → List ℕ → Option Chain → Bool

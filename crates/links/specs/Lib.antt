@@ -4,6 +4,7 @@ pub mod Entries
 pub mod Facts
 pub mod Issued
 pub mod Licence
+pub mod Places
 pub mod Prepared
 pub mod Recorded
 pub mod Refusals

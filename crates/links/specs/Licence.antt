@@ -1,11 +1,16 @@
 -- Which entries a state licenses.
-use Rattle.std.specs.Prelude.{◌≡◌, ℕ, Bool, true, not, List, [], ◌∷◌, length, Option, None, Some, option_map, nat_lt, Result, Ok, Err, ⊤}
+use Rattle.std.specs.Prelude.{◌≡◌, ℕ, Bool, true, not, List, [], ◌∷◌, ◌++◌, length, Option, None, Some, is_some, option_map, nat_lt, Result, Ok, Err, ⊤}
 use Rattle.std.specs.List.{list_all}
+use Rattle.base_types.specs.Named.{value_at}
 use Rattle.base_types.specs.Rules.{fails_if, first_of}
+use Rattle.boundary.specs.declared.rules.Boundary.{Boundary}
+use Rattle.boundary.specs.declared.rules.Rule.{Rule}
 use Rattle.links.specs.declared.entry.Entry.{Entry}
 use Rattle.links.specs.declared.entry.Entry.TheVariants as entry
+use Rattle.links.specs.declared.entry.Exchange.{Exchange}
+use Rattle.links.specs.declared.entry.Narrowing.{Narrowing}
 use Rattle.links.specs.declared.fault.RuleCode.{RuleCode}
-use Rattle.links.specs.declared.fault.RuleCode.TheVariants.{E11, E25, A4, A6}
+use Rattle.links.specs.declared.fault.RuleCode.TheVariants.{E11, E12, E21, E24, E25, A4, A6}
 use Rattle.links.specs.declared.fault.ApplyFault.{ApplyFault}
 use Rattle.links.specs.declared.fault.ApplyFault.TheVariants.{Unlicensed, Memory}
 use Rattle.access_token.specs.Payload.{payload_text}
@@ -13,10 +18,12 @@ use Rattle.service_config.specs.declared.config.Config.{Config}
 use Rattle.service_config.specs.Formed.{IsFormedConfig}
 use Rattle.links.specs.Chain.{Chain}
 use Rattle.links.specs.Entries.{IsEntry}
-use Rattle.links.specs.Facts.{facts_of}
+use Rattle.links.specs.Authority.{is_live}
+use Rattle.links.specs.Facts.{depth_of, facts_of}
+use Rattle.links.specs.Places.{place_of}
 use Rattle.links.specs.Prepared.{PreparedEntry}
 use Rattle.links.specs.Recorded.{recorded}
-use Rattle.links.specs.State.{Content, start_of, content_of, made, source_at, token_text, after}
+use Rattle.links.specs.State.{Content, start_of, chain, content_of, made, source_at, token_text, after}
 use Rattle.allow_policy.specs.Granting.{knows_scope}
 use Rattle.service_view.specs.declared.ready_fault.ReadyFault.{ReadyFault}
 use Rattle.service_view.specs.declared.ready_fault.ReadyFault.TheVariants as ready
@@ -30,6 +37,28 @@ knows_word c word = knows_scope c.view.lists word
 abbrev pub fault_of : {X : Type 0} → Result X RuleCode → Option RuleCode
 fault_of (Ok x) = None
 fault_of (Err rule) = Some rule
+
+-- the role is there
+abbrev pub knows_role : Content → List ℕ → Bool
+knows_role c role = is_some (value_at role c.view.lists.roles)
+
+-- a role of the rule isn't there
+abbrev pub has_unknown_role : Content → Rule → Bool
+has_unknown_role c rule = not (list_all (knows_role c) rule.roles)
+
+-- the first rule of the boundary that names an unknown role
+abbrev pub unknown_role : Content → Boundary → Option RuleCode
+unknown_role c boundary = option_map E12 (place_of (has_unknown_role c) boundary.rules)
+
+-- the same of a boundary, if there is one
+abbrev pub unknown_role_in : Content → Option Boundary → Option RuleCode
+unknown_role_in c None = None
+unknown_role_in c (Some boundary) = unknown_role c boundary
+
+-- the chain is over 8 links long
+abbrev pub is_deep : Option Chain → Bool
+is_deep None = true
+is_deep (Some chain) = nat_lt 8 (depth_of chain)
 
 -- the chain's token has over 8,192 bytes
 abbrev pub is_long : Content → Option Chain → Bool
@@ -50,13 +79,27 @@ refusal_of ready.UnknownRole = Unlicensed A4
 refusal_of ready.Limit = Unlicensed A6
 refusal_of ready.Memory = Memory
 
+-- the rules on an exchange, in order, but for the token's size
+abbrev pub exchange_rules : Content → Exchange → List (Option RuleCode)
+exchange_rules c x = fails_if (not (list_all (knows_word c) x.scope)) E11 ∷ fault_of (source_at c x.provider x.token x.at) ∷ []
+
+-- the same on a narrowing
+abbrev pub narrow_rules : Content → Narrowing → List (Option RuleCode)
+narrow_rules c x =
+    fails_if (not (list_all (knows_word c) x.scope)) E11 ∷
+    unknown_role_in c x.boundary ∷
+    fails_if (not (is_live c.view (chain c x.parent) x.at)) E21 ∷
+    fails_if (is_deep (made c (entry.Narrow x))) E24 ∷ []
+
+-- the rule on the size of the token
+abbrev pub size_rule : Content → Entry → Option RuleCode
+size_rule c e = fails_if (is_long c (made c e)) E25
+
 -- The first rule that forbids recording the entry, or none.
 unfoldable pub first_unlicensed : Content → Entry → Option RuleCode
 first_unlicensed c (entry.Put command) = option_map rule_of (ready_fault c.view command)
-first_unlicensed c (entry.Federated x) = first_of (
-    fails_if (not (list_all (knows_word c) x.scope)) E11 ∷
-    fault_of (source_at c x.provider x.token x.at) ∷
-    fails_if (is_long c (made c (entry.Federated x))) E25 ∷ [])
+first_unlicensed c (entry.Federated x) = first_of (exchange_rules c x ++ size_rule c (entry.Federated x) ∷ [])
+first_unlicensed c (entry.Narrow x) = first_of (narrow_rules c x ++ size_rule c (entry.Narrow x) ∷ [])
 
 -- no rule forbids recording the entry
 abbrev pub Licensed : Content → Entry → Type 0

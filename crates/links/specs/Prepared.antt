@@ -4,6 +4,7 @@ use Rattle.service_view.specs.Puts.{command_of}
 use Rattle.links.specs.declared.entry.Entry.{Entry}
 use Rattle.links.specs.declared.entry.Entry.TheVariants as entry
 use Rattle.links.specs.declared.recorded.RecordedLink.{RecordedLink}
+use Rattle.links.specs.declared.tokens.Issued.{Issued}
 use Rattle.links.specs.declared.prepared.Plan.{Plan}
 use Rattle.links.specs.declared.prepared.Plan.TheVariants as plan
 
@@ -14,12 +15,11 @@ pub record PreparedEntry : Type 0 where
   pub payload : Option (List ℕ)
   pub token : Option (List ℕ)
 
+-- the entry, with the link that it records
+abbrev pub with_link : Entry → Issued → PreparedEntry
+with_link e issued = record { entry = e; recorded = Some issued.recorded; payload = Some issued.payload; token = Some issued.token }
+
 -- what a plan shows
 abbrev pub planned : Plan → PreparedEntry
 planned (plan.Put ready) = record { entry = entry.Put (command_of ready); recorded = None; payload = None; token = None }
-planned (plan.Federated exchange issued) = record {
-  entry = entry.Federated exchange;
-  recorded = Some issued.recorded;
-  payload = Some issued.payload;
-  token = Some issued.token;
-}
+planned (plan.Link e issued) = with_link e issued

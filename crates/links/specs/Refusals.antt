@@ -8,7 +8,7 @@ use Rattle.wif_claims.specs.declared.claims.ClaimFault.TheVariants as claim
 use Rattle.pools.specs.declared.fault.MapFault.{MapFault}
 use Rattle.pools.specs.declared.fault.MapFault.TheVariants as map
 use Rattle.links.specs.declared.fault.RuleCode.{RuleCode}
-use Rattle.links.specs.declared.fault.RuleCode.TheVariants.{E11, E14, E15, E16, E17, E18, E19, E20, E25, A4, A6}
+use Rattle.links.specs.declared.fault.RuleCode.TheVariants.{E11, E12, E14, E15, E16, E17, E18, E19, E20, E21, E24, E25, A4, A6}
 
 -- the detail of a fault of a signature
 abbrev pub jws_text : JwsFault → List ℕ
@@ -49,6 +49,7 @@ map_text map.Memory = codes "Memory"
 -- the code of the rule, and the detail behind a space
 abbrev pub rule_text : RuleCode → List ℕ
 rule_text E11 = codes "E11"
+rule_text (E12 rule) = codes "E12 Role " ++ decimal rule
 rule_text E14 = codes "E14"
 rule_text E15 = codes "E15"
 rule_text (E16 fault) = codes "E16 " ++ jws_text fault
@@ -56,6 +57,8 @@ rule_text (E17 fault) = codes "E17 " ++ claim_text fault
 rule_text (E18 fault) = codes "E18 " ++ map_text fault
 rule_text (E19 fault) = codes "E19 " ++ map_text fault
 rule_text (E20 fault) = codes "E20 " ++ map_text fault
+rule_text E21 = codes "E21"
+rule_text E24 = codes "E24"
 rule_text E25 = codes "E25"
 rule_text A4 = codes "A4"
 rule_text A6 = codes "A6"
@@ -67,9 +70,12 @@ word_of E14 = codes "invalid_target"
 word_of E15 = codes "invalid_target"
 word_of A4 = codes "invalid_argument"
 word_of A6 = codes "invalid_argument"
+word_of (E12 rule) = codes "invalid_request"
 word_of (E16 fault) = codes "invalid_request"
 word_of (E17 fault) = codes "invalid_request"
 word_of (E18 fault) = codes "invalid_request"
 word_of (E19 fault) = codes "invalid_request"
 word_of (E20 fault) = codes "invalid_request"
+word_of E21 = codes "invalid_request"
+word_of E24 = codes "invalid_request"
 word_of E25 = codes "invalid_request"

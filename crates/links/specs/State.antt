@@ -15,6 +15,7 @@ use Rattle.service_config.specs.Configuration.{provider_name}
 use Rattle.service_view.specs.View.{View, start_view, view_after, pool_enabled}
 use Rattle.links.specs.declared.entry.Entry.{Entry}
 use Rattle.links.specs.declared.entry.Entry.TheVariants as entry
+use Rattle.links.specs.declared.entry.Narrowing.{Narrowing}
 use Rattle.links.specs.declared.fault.RuleCode.{RuleCode}
 use Rattle.links.specs.declared.fault.RuleCode.TheVariants.{E14, E15}
 use Rattle.links.specs.declared.source.Source.{Source}
@@ -60,10 +61,15 @@ source_at c provider token now = named c.view provider >>= (λ p. passed (fails_
 abbrev pub federated_link : List (List ℕ) → ℕ → Source → Link
 federated_link words at source = record { at = at; words = words; kind = Kind.Federated source }
 
+-- the link that narrows an earlier one
+abbrev pub narrow_link : Narrowing → Link
+narrow_link x = record { at = x.at; words = x.scope; kind = Kind.Narrow x.parent x.boundary }
+
 -- the link that an entry records
 abbrev pub link_of : Content → Entry → Option Link
 link_of c (entry.Put command) = None
 link_of c (entry.Federated x) = option_map (federated_link x.scope x.at) (result_ok (source_at c x.provider x.token x.at))
+link_of c (entry.Narrow x) = Some (narrow_link x)
 
 -- the links with this one behind them, if there is one
 abbrev pub with_link : List Link → Option Link → List Link
@@ -74,6 +80,7 @@ with_link links (Some link) = links ++ link ∷ []
 abbrev pub view_behind : View → Entry → View
 view_behind view (entry.Put command) = view_after view command
 view_behind view (entry.Federated x) = view
+view_behind view (entry.Narrow x) = view
 
 -- the state after an entry
 abbrev pub after : Content → Entry → Content

@@ -1,3 +1,5 @@
+ghost use Rattle.std.specs.Prelude.{◌≡◌};
+
 use crate::detail::{claim_fault, coded, jws_fault, map_fault};
 use base_types::Text;
 use hmac_jws::JwsFault;
@@ -10,6 +12,8 @@ use wif_claims::ClaimFault;
 pub enum RuleCode {
     /// A scope word is unknown.
     E11,
+    /// The rule of this number in the access boundary names an unknown role.
+    E12 { rule: usize },
     /// The provider is unknown.
     E14,
     /// The provider or its pool is disabled.
@@ -24,6 +28,10 @@ pub enum RuleCode {
     E19(MapFault),
     /// The provider's condition isn't true of the subject token.
     E20(MapFault),
+    /// The token that would be narrowed isn't live.
+    E21,
+    /// The chain would be over 8 links long.
+    E24,
     /// The access token would have over 8,192 bytes.
     E25,
     /// A provider's pool or a binding's role is unknown.
@@ -44,11 +52,14 @@ impl RuleCode {
             RuleCode::E11 => "invalid_scope",
             RuleCode::E14 | RuleCode::E15 => "invalid_target",
             RuleCode::A4 | RuleCode::A6 => "invalid_argument",
-            RuleCode::E16(_)
+            RuleCode::E12 { .. }
+            | RuleCode::E16(_)
             | RuleCode::E17(_)
             | RuleCode::E18(_)
             | RuleCode::E19(_)
             | RuleCode::E20(_)
+            | RuleCode::E21
+            | RuleCode::E24
             | RuleCode::E25 => "invalid_request",
         }
     }
@@ -59,6 +70,7 @@ impl RuleCode {
     {
         match self {
             RuleCode::E11 => Text::copy_of(alloc, "E11"),
+            RuleCode::E12 { rule } => Ok(Text::new(format!(in alloc; "E12 Role {rule}")?)),
             RuleCode::E14 => Text::copy_of(alloc, "E14"),
             RuleCode::E15 => Text::copy_of(alloc, "E15"),
             RuleCode::E16(fault) => coded(alloc, "E16 ", jws_fault(alloc, *fault)?),
@@ -66,6 +78,8 @@ impl RuleCode {
             RuleCode::E18(fault) => coded(alloc, "E18 ", map_fault(alloc, fault)?),
             RuleCode::E19(fault) => coded(alloc, "E19 ", map_fault(alloc, fault)?),
             RuleCode::E20(fault) => coded(alloc, "E20 ", map_fault(alloc, fault)?),
+            RuleCode::E21 => Text::copy_of(alloc, "E21"),
+            RuleCode::E24 => Text::copy_of(alloc, "E24"),
             RuleCode::E25 => Text::copy_of(alloc, "E25"),
             RuleCode::A4 => Text::copy_of(alloc, "A4"),
             RuleCode::A6 => Text::copy_of(alloc, "A6"),
@@ -78,6 +92,12 @@ impl RuleCode {
 pub enum ApplyFault {
     Unlicensed { rule: RuleCode },
     Memory,
+}
+
+pub(crate) fn unlicensed(rule: RuleCode) -> ApplyFault
+    ensures { result ≡ ApplyFault.Unlicensed rule }
+{
+    ApplyFault::Unlicensed { rule }
 }
 
 impl From<AllocError> for ApplyFault {

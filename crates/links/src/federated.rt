@@ -1,37 +1,28 @@
-ghost use Rattle.std.specs.Prelude.{◌≡◌, ◌≤◌, ◌∷◌, [], ℕ, List, IfOk, IfErr, Ok, Some, length, nat_lt, not, option_map};
-ghost use Rattle.std.specs.List.{list_all};
+ghost use Rattle.std.specs.Prelude.{◌≡◌, ◌≤◌, ◌∷◌, [], ℕ, List, IfOk, IfErr, Ok, Some, length, not, option_map};
 ghost use Rattle.base_types.specs.Rules.{fails_if, first_of};
-ghost use Rattle.hmac_jws.specs.Compact.{compact};
 ghost use Rattle.access_token.specs.Facts.{name_of};
-ghost use Rattle.access_token.specs.Payload.{payload_text};
 ghost use Rattle.service_view.specs.View.{cloud_platform as word_from_start};
 ghost use Rattle.links.specs.declared.entry.Entry.TheVariants as entries;
-ghost use Rattle.links.specs.declared.prepared.Plan.TheVariants as plans;
-ghost use Rattle.links.specs.declared.fault.RuleCode.TheVariants.{E11, E15, E25};
+ghost use Rattle.links.specs.declared.fault.RuleCode.TheVariants.{E15};
 ghost use Rattle.links.specs.Chain.{Root};
 ghost use Rattle.links.specs.Entries.{IsExchange};
 ghost use Rattle.links.specs.Facts.{pools_in};
-ghost use Rattle.links.specs.Licence.{Passes, fault_of, first_unlicensed, knows_word, prepared_of};
-ghost use Rattle.links.specs.Prepared.{planned};
+ghost use Rattle.links.specs.Licence.{Passes, exchange_rules, fault_of, first_unlicensed, prepared_of};
+ghost use Rattle.links.specs.Prepared.{with_link};
 ghost use Rattle.links.specs.Recorded.{recorded};
 ghost use Rattle.links.specs.State.{made, named, provider_enabled, source_at};
 
-use crate::prepared::Issued;
+use crate::copying::copy_words;
+use crate::fault::unlicensed;
 use crate::source::{Source, read_source};
+use crate::tokens::{Issued, MAX_LIFETIME, check_words, with_token};
 use crate::{ApplyFault, Exchange, RecordedKind, RecordedLink, RuleCode, State};
-use access_token::{Facts, subject_name, write_payload};
-use allow_policy::knows_scope;
+use access_token::{Facts, subject_name};
 use base_types::{Items, Text};
-use hmac_jws::sign;
 use iam_names::{Audience, PoolName, ScopeWord, Who};
 use pools::Provider;
 use service_view::cloud_platform;
 use std::alloc::{AllocError, Global};
-
-/// How long a token lasts at most, in seconds.
-const MAX_LIFETIME: u64 = 3600;
-
-const TOKEN_LIMIT: usize = 8192;
 
 /// The scope of an exchange that names none.
 pub fn all_permissions(alloc: Global) -> Result<Items<ScopeWord>, AllocError>
@@ -47,65 +38,17 @@ pub fn all_permissions(alloc: Global) -> Result<Items<ScopeWord>, AllocError>
 pub(crate) fn issue(alloc: Global, state: &State, exchange: &Exchange) -> Result<Issued, ApplyFault>
     requires { IsExchange exchange.now }
     ensures licensed { Passes result (first_unlicensed state.now.content (entries.Federated exchange.now)) }
-    ensures issued { IfOk result (λ issued. planned (plans.Federated exchange.now issued) ≡ prepared_of state.now.content (entries.Federated exchange.now)) }
+    ensures issued { IfOk result (λ issued. with_link (entries.Federated exchange.now) issued ≡ prepared_of state.now.content (entries.Federated exchange.now)) }
 {
     let recorded = link_for(alloc, state, exchange)?;
     with_token(alloc, state, recorded)
-}
-
-fn with_token(alloc: Global, state: &State, recorded: RecordedLink) -> Result<Issued, ApplyFault>
-    ensures issued { IfOk result (λ issued. let payload = payload_text state.now.content.issuer recorded.facts in
-        issued ≡ record { recorded = recorded; payload = payload; token = compact state.now.content.key payload }) }
-    ensures size { Passes result (fails_if (nat_lt 8192 (length (compact state.now.content.key (payload_text state.now.content.issuer recorded.facts)))) E25) }
-{
-    match sign_facts(alloc, state, &recorded.facts) {
-        Ok(signed) => Ok(Issued {
-            recorded,
-            payload: signed.payload,
-            token: signed.token,
-        }),
-        Err(fault) => {
-            drop(recorded);
-            Err(fault)
-        }
-    }
-}
-
-// A token's payload and text.
-#[derive(Debug, Drop)]
-struct Signed {
-    payload: Text,
-    token: Text,
-}
-
-fn sign_facts(alloc: Global, state: &State, facts: &Facts) -> Result<Signed, ApplyFault>
-    ensures signed { IfOk result (λ signed. let payload = payload_text state.now.content.issuer facts.now in
-        signed ≡ record { payload = payload; token = compact state.now.content.key payload }) }
-    ensures size { Passes result (fails_if (nat_lt 8192 (length (compact state.now.content.key (payload_text state.now.content.issuer facts.now)))) E25) }
-{
-    let payload = write_payload(alloc, state.issuer(), facts)?;
-    let token = sign(alloc, state.key(), payload.as_str().as_bytes())?;
-    if token.len() > TOKEN_LIMIT {
-        return Err(unlicensed(RuleCode::E25));
-    }
-    Ok(Signed {
-        payload,
-        token: Text::new(token),
-    })
-}
-
-fn unlicensed(rule: RuleCode) -> ApplyFault
-    ensures { result ≡ ApplyFault.Unlicensed rule }
-{
-    ApplyFault::Unlicensed { rule }
 }
 
 // The link that an exchange would record.
 fn link_for(alloc: Global, state: &State, exchange: &Exchange) -> Result<RecordedLink, ApplyFault>
     requires { IsExchange exchange.now }
     ensures link { IfOk result (λ link. Some link ≡ option_map recorded (made state.now.content (entries.Federated exchange.now))) }
-    ensures passes { Passes result (first_of (fails_if (not (list_all (knows_word state.now.content) exchange.now.scope)) E11
-        ∷ fault_of (source_at state.now.content exchange.now.provider exchange.now.token exchange.now.at) ∷ [])) }
+    ensures passes { Passes result (first_of (exchange_rules state.now.content exchange.now)) }
 {
     check_words(state, exchange.scope.as_slice())?;
     let source = source_in(
@@ -173,16 +116,6 @@ fn scopes_of(alloc: Global, words: &[ScopeWord]) -> Result<Items<Items<ScopeWord
     Ok(scopes)
 }
 
-fn copy_words(alloc: Global, words: &[ScopeWord]) -> Result<Items<ScopeWord>, AllocError>
-    ensures { IfOk result (λ copy. copy ≡ words.now) }
-{
-    let mut copy = Items::new(alloc);
-    for word in words {
-        copy.push(word.copy(alloc)?)?;
-    }
-    Ok(copy)
-}
-
 #[tactic(auto, unfolding(crate::specs::Facts::facts_of))]
 fn recorded_link(alloc: Global, number: u32, at: u64, shown: Shown, source: Source) -> RecordedLink
     requires moment { at ≤ 200_000_000_000 }
@@ -192,6 +125,7 @@ fn recorded_link(alloc: Global, number: u32, at: u64, shown: Shown, source: Sour
 {
     RecordedLink {
         kind: RecordedKind::Federated { exp: source.exp },
+        depth: 1,
         facts: Facts {
             number,
             sub: shown.sub,
@@ -203,26 +137,9 @@ fn recorded_link(alloc: Global, number: u32, at: u64, shown: Shown, source: Sour
             pools: shown.pools,
             accounts: Items::new(alloc),
             scopes: shown.scopes,
+            bounds: Items::new(alloc),
         },
     }
-}
-
-fn check_words(state: &State, words: &[ScopeWord]) -> Result<(), ApplyFault>
-    ensures { Passes result (fails_if (not (list_all (knows_word state.now.content) words.now)) E11) }
-{
-    if knows_words(state, words) {
-        return Ok(());
-    }
-    Err(unlicensed(RuleCode::E11))
-}
-
-fn knows_words(state: &State, words: &[ScopeWord]) -> bool
-    ensures { result ≡ list_all (knows_word state.now.content) words.now }
-{
-    let policies = &state.view().policies;
-    words
-        .iter()
-        .all(|word| knows_scope(policies, word.as_str()))
 }
 
 fn source_in(

@@ -1,5 +1,5 @@
-use crate::{Exchange, RecordedLink};
-use base_types::Text;
+use crate::tokens::Issued;
+use crate::{Entry, RecordedLink};
 use service_view::Ready;
 use std::marker::Model;
 
@@ -7,15 +7,7 @@ use std::marker::Model;
 #[derive(Debug, Drop)]
 pub(crate) enum Plan {
     Put(Ready),
-    Federated { exchange: Exchange, issued: Issued },
-}
-
-/// A link with its token's payload and text.
-#[derive(Debug, Drop)]
-pub(crate) struct Issued {
-    pub(crate) recorded: RecordedLink,
-    pub(crate) payload: Text,
-    pub(crate) token: Text,
+    Link { entry: Entry, issued: Issued },
 }
 
 /// An entry that a state licensed, with all that its recording needs. Contracts see the entry, and what is held of the link
@@ -46,7 +38,7 @@ impl Prepared {
     {
         match &self.plan {
             Plan::Put(_) => None,
-            Plan::Federated { issued, .. } => Some(issued.token.as_str()),
+            Plan::Link { issued, .. } => Some(issued.token.as_str()),
         }
     }
 
@@ -56,7 +48,7 @@ impl Prepared {
     {
         match &self.plan {
             Plan::Put(_) => None,
-            Plan::Federated { issued, .. } => Some(issued.payload.as_str()),
+            Plan::Link { issued, .. } => Some(issued.payload.as_str()),
         }
     }
 
@@ -66,7 +58,7 @@ impl Prepared {
     {
         match &self.plan {
             Plan::Put(_) => None,
-            Plan::Federated { issued, .. } => Some(&issued.recorded),
+            Plan::Link { issued, .. } => Some(&issued.recorded),
         }
     }
 }

@@ -5,11 +5,15 @@ use access_token::Facts;
 pub enum RecordedKind {
     /// A subject token was exchanged that expires at this moment.
     Federated { exp: u64 },
+    /// The token of the link of this number was narrowed, and by an access boundary where it is bounded.
+    Narrow { parent: u32, bounded: bool },
 }
 
 /// A recorded link, with what its token says.
 #[derive(Debug, Drop)]
 pub struct RecordedLink {
     pub kind: RecordedKind,
+    /// How many links its chain is long.
+    pub depth: u32,
     pub facts: Facts,
 }

@@ -1,14 +1,17 @@
 ghost use Rattle.std.specs.Prelude.{◌≡◌, ◌≤◌, ◌<◌, ◌-◌, ◌^◌, IfOk, IfErr, OnOk, OnErr};
 ghost use Rattle.links.specs.declared.entry.Entry.TheVariants as entries;
 ghost use Rattle.links.specs.declared.fault.ApplyFault.{ApplyFault as Fault};
-ghost use Rattle.links.specs.Entries.{IsEntry, IsExchange};
+ghost use Rattle.links.specs.Entries.{IsEntry, IsExchange, IsNarrowing};
 ghost use Rattle.links.specs.Licence.{Licensed, Passes, first_unlicensed, prepared_of, refusal_of};
-ghost use Rattle.links.specs.Prepared.{planned};
+ghost use Rattle.links.specs.Prepared.{planned, with_link};
 ghost use Rattle.links.specs.State.{after};
 
+use crate::fault::unlicensed;
 use crate::federated::issue;
+use crate::narrow::narrow;
 use crate::prepared::Plan;
-use crate::{ApplyFault, Entry, Exchange, Prepared, RuleCode, State};
+use crate::tokens::Issued;
+use crate::{ApplyFault, Entry, Exchange, Narrowing, Prepared, RuleCode, State};
 use service_view::{Command, ReadyFault};
 use std::alloc::{AllocError, Global};
 
@@ -24,6 +27,7 @@ pub fn prepare(alloc: Global, state: &mut State, entry: Entry) -> Result<Prepare
     match entry {
         Entry::Put(command) => prepare_put(alloc, state, command),
         Entry::Federated(exchange) => prepare_exchange(alloc, state, exchange),
+        Entry::Narrow(narrowing) => prepare_narrowing(alloc, state, narrowing),
     }
 }
 
@@ -50,12 +54,6 @@ fn refusal(fault: ReadyFault) -> ApplyFault
     }
 }
 
-fn unlicensed(rule: RuleCode) -> ApplyFault
-    ensures { result ≡ Fault.Unlicensed rule }
-{
-    ApplyFault::Unlicensed { rule }
-}
-
 fn prepare_exchange(
     alloc: Global,
     state: &mut State,
@@ -69,12 +67,39 @@ fn prepare_exchange(
     ensures room { OnOk result (1 ≤ state.new.spare) }
 {
     match issue(alloc, state, &exchange) {
-        Ok(issued) => with_room(state, Plan::Federated { exchange, issued }),
+        Ok(issued) => with_room(state, linked(Entry::Federated(exchange), issued)),
         Err(fault) => {
             drop(exchange);
             Err(fault)
         }
     }
+}
+
+fn prepare_narrowing(
+    alloc: Global,
+    state: &mut State,
+    narrowing: Narrowing,
+) -> Result<Prepared, ApplyFault>
+    requires room { state.old.content.count < 2 ^ 32 - 1 }
+    requires form { IsNarrowing narrowing }
+    ensures licensed { Passes result (first_unlicensed state.old.content (entries.Narrow narrowing)) }
+    ensures prepared { IfOk result (λ prepared. prepared ≡ prepared_of state.old.content (entries.Narrow narrowing)) }
+    ensures content { state.new.content ≡ state.old.content }
+    ensures room { OnOk result (1 ≤ state.new.spare) }
+{
+    match narrow(alloc, state, &narrowing) {
+        Ok(issued) => with_room(state, linked(Entry::Narrow(narrowing), issued)),
+        Err(fault) => {
+            drop(narrowing);
+            Err(fault)
+        }
+    }
+}
+
+fn linked(entry: Entry, issued: Issued) -> Plan
+    ensures { planned result ≡ with_link entry issued }
+{
+    Plan::Link { entry, issued }
 }
 
 fn with_room(state: &mut State, plan: Plan) -> Result<Prepared, ApplyFault>

@@ -4,6 +4,7 @@ ghost use Rattle.wif_claims.specs.Payload.{claims_of};
 ghost use Rattle.links.specs.Licence.{Passes, fault_of};
 ghost use Rattle.links.specs.Sources.{source_of, source_of_claims, who_of_claims, map_rule, opened, claimed_by};
 
+use crate::fault::unlicensed;
 use crate::{ApplyFault, RuleCode};
 use base_types::{Items, Text};
 use hmac_jws::{JwsFault, Verified, verify};
@@ -20,12 +21,6 @@ pub struct Source {
     pub exp: u64,
     /// Who may act for the subject, the next one first.
     pub may_act: Items<Text>,
-}
-
-fn unlicensed(rule: RuleCode) -> ApplyFault
-    ensures { result ≡ ApplyFault.Unlicensed rule }
-{
-    ApplyFault::Unlicensed { rule }
 }
 
 /// What a subject token gives under the provider at a moment.

@@ -3,8 +3,9 @@ ghost use Rattle.service_config.specs.Formed.{IsFormedConfig};
 ghost use Rattle.service_view.specs.View.{start_view as view_at_start};
 ghost use Rattle.links.specs.State.{start_of, start_provider as provider_at_start};
 
-use crate::prepared::{Issued, Plan};
-use crate::{Exchange, RecordedLink};
+use crate::prepared::Plan;
+use crate::tokens::Issued;
+use crate::{Entry, RecordedLink};
 use base_types::{Items, Text, both};
 use pools::{Provider, TokenIssuer};
 use service_config::{Config, Key, StartProvider};
@@ -107,7 +108,7 @@ impl State {
     ghost use Rattle.service_view.specs.Puts.{RefusesBy, ready_fault, made_ready, command_of};
     ghost use Rattle.links.specs.Licence.{Licensed, Reached, prepared_of};
     ghost use Rattle.links.specs.declared.entry.Entry.TheVariants as entries;
-    ghost use Rattle.links.specs.Entries.{IsEntry, IsExchange};
+    ghost use Rattle.links.specs.Entries.{IsEntry};
     ghost use Rattle.links.specs.Prepared.{planned};
     ghost use Rattle.links.specs.Recorded.{recorded as recorded_of};
     ghost use Rattle.links.specs.State.{after, chain, made};
@@ -204,7 +205,7 @@ impl State {
     {
         match plan {
             Plan::Put(ready) => self.put(ready),
-            Plan::Federated { exchange, issued } => self.record(exchange, issued),
+            Plan::Link { entry, issued } => self.record(entry, issued),
         }
     }
 
@@ -220,16 +221,16 @@ impl State {
         self.count += 1;
     }
 
-    // Puts the link of an exchange behind the others.
-    fn record(&mut self, exchange: Exchange, issued: Issued)
+    // Puts the link of an entry behind the others.
+    fn record(&mut self, entry: Entry, issued: Issued)
         requires room { 1 ≤ self.old.spare }
         requires count { self.old.content.count < 2 ^ 32 - 1 }
-        requires form { IsExchange exchange }
-        requires licensed { Licensed self.old.content (entries.Federated exchange) }
-        requires recorded { Some issued.recorded ≡ option_map recorded_of (made self.old.content (entries.Federated exchange)) }
-        ensures { self.new.content ≡ after self.old.content (entries.Federated exchange) }
+        requires form { IsEntry entry }
+        requires licensed { Licensed self.old.content entry }
+        requires recorded { Some issued.recorded ≡ option_map recorded_of (made self.old.content entry) }
+        ensures { self.new.content ≡ after self.old.content entry }
     {
-        drop(exchange);
+        drop(entry);
         self.links.push(issued.recorded).unwrap();
         self.count += 1;
     }

@@ -1,5 +1,5 @@
+use Rattle.std.proofs.Common.{◌∙◌}
 use Rattle.links.specs.declared.entry.Entry.TheVariants as entry
-use Rattle.links.specs.declared.prepared.Plan.TheVariants as plan
 use Rattle.links.specs.Licence.{first_unlicensed}
 use Rattle.links.specs.Prepared.{planned}
 use Rattle.links.proofs.Preparing.{passes_but_memory, room_prepared}
@@ -13,5 +13,5 @@ returns-in-Ok-clause-licensed c =
 pub returns-in-Ok-clause-prepared : goal.returns-in-Ok-clause-prepared
 returns-in-Ok-clause-prepared c =
     let content = c.args.state.now.content in
-    room_prepared content (entry.Federated c.args.exchange) (planned (plan.Federated c.args.exchange c.in-Ok.issued)) c.with_room.result
-    c.in-Ok.ensures.issued c.with_room.ensures.prepared
+    room_prepared content (entry.Federated c.args.exchange) (planned c.linked.result) c.with_room.result (c.linked.ensures ∙ c.in-Ok.ensures.issued)
+    c.with_room.ensures.prepared
