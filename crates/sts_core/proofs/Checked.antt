@@ -1,13 +1,12 @@
 -- The laws of checks, and of the journal that each step leaves.
 use Rattle.std.proofs.Common.{◌≡◌, ℕ, ◌≤◌, ◌^◌, ◌∷◌, [], List, Bool, true, false, length, refl, sym, ap, ◌∙◌, subst}
-use Rattle.std.specs.Prelude.{◌↔◌, ⊤, nat_lt, codes, IfSome, Option, None, Some, Result, Ok, Err, option_and_then, if◌then◌else◌}
+use Rattle.std.specs.Prelude.{◌↔◌, ⊤, nat_lt, IfOk, IfSome, Option, None, Some, Result, Ok, Err, option_and_then, if◌then◌else◌}
 use Rattle.base_types.specs.Rules.{first_failing}
 use Rattle.serde_json.specs.Data.{Data}
 use Rattle.hmac_jws.specs.Verified.{first_jws_fault, MacGood}
 use Rattle.hmac_jws.specs.declared.fault.JwsFault.{JwsFault}
 use Rattle.service_config.specs.declared.config.Config.{Config}
 use Rattle.service_config.specs.Formed.{IsFormedConfig}
-use Rattle.iam_names.specs.declared.audience.Audience.{Audience}
 use Rattle.service_view.specs.View.{View, pool_enabled, account_enabled}
 use Rattle.service_view.specs.Commands.{IsCommand}
 use Rattle.service_view.specs.declared.command.Command.{Command}
@@ -18,33 +17,37 @@ use Rattle.wif_base.specs.declared.request.Request.{Request}
 use Rattle.wif_base.specs.declared.route.Route.{Route}
 use Rattle.wif_base.specs.declared.route.Route.TheVariants.{Token, Generate, Introspect, Check, Admin}
 use Rattle.grant_gate.specs.Carried.{carried_of, carried_after, gate_fault}
-use Rattle.grant_gate.specs.Decision.{carried_decision, decided, denied_at, denied_unless, fault_decision, place_failing, words_allow}
+use Rattle.grant_gate.specs.Decision.{boundary_holds, carried_decision, decided, denied_at, denied_unless, fault_decision, place_failing, words_allow}
 use Rattle.grant_gate.specs.declared.decision.Decision.{Decision}
 use Rattle.grant_gate.specs.declared.decision.Decision.TheVariants.{Admit, Deny}
 use Rattle.grant_gate.specs.declared.decision.GateRule.{GateRule}
-use Rattle.grant_gate.specs.declared.decision.GateRule.TheVariants.{G4, G5, G6, G7, G9}
+use Rattle.grant_gate.specs.declared.decision.GateRule.TheVariants.{G4, G5, G6, G7, G8, G9}
 use Rattle.grant_gate.specs.declared.fault.GateFault.{GateFault}
 use Rattle.grant_gate.specs.declared.fault.GateFault.TheVariants as gate
 use Rattle.links.specs.declared.entry.Entry.{Entry}
 use Rattle.links.specs.declared.entry.Entry.TheVariants as entry
 use Rattle.links.specs.declared.fault.RuleCode.{RuleCode}
 use Rattle.links.specs.Authority.{admits}
-use Rattle.links.specs.Chain.{Chain}
+use Rattle.boundary.specs.declared.rules.Boundary.{Boundary}
+use Rattle.links.specs.Chain.{Chain, Narrowed, Own, own}
 use Rattle.links.specs.Entries.{IsEntry}
-use Rattle.links.specs.Facts.{exp_of, pools_of, accounts_of, scopes_of}
+use Rattle.links.specs.Facts.{exp_of, pools_of, accounts_of, scopes_of, bounds_of}
 use Rattle.links.specs.Issued.{issued_link}
 use Rattle.links.specs.Licence.{first_unlicensed, Lawful}
 use Rattle.links.specs.State.{chain, content_of, start_of, state_after, token_text}
+use Rattle.links.proofs.ByLists.{parent_admits}
+use Rattle.links.proofs.Journals.{lawful_kept, whole_of_chain}
 use Rattle.links.proofs.LinkLaws.{issued_for}
 use Rattle.links.proofs.Replays.{lawful-last, state_after-append}
-use Rattle.sts_core.specs.declared.form.Parameter.{Parameter}
-use Rattle.sts_core.specs.declared.exchange.Asked.{Asked}
-use Rattle.sts_core.specs.Asked.{asked_for, exchange_of, exchange_under, is_plain_exchange, named_provider}
-use Rattle.sts_core.specs.Formed.{IsFormedAsked}
-use Rattle.sts_core.specs.Forms.{form_of, once}
-use Rattle.sts_core.specs.Machine.{administration, command_in, commanded, commanded_by, exchange, exchanged, is_bearer, no_entry, object_of, ruled, step, step_of, with_entry}
+use Rattle.sts_core.specs.declared.exchange_rule.ExchangeRule.{ExchangeRule}
+use Rattle.sts_core.specs.Asked.{asked_for}
+use Rattle.sts_core.specs.Forms.{form_of, object_of}
+use Rattle.sts_core.specs.Machine.{administration, command_in, commanded, commanded_by, exchange, exchanged, is_bearer}
+use Rattle.sts_core.specs.Machine.{no_entry, ruled, step, step_of, with_entry}
 use Rattle.sts_core.specs.Replies.{u1}
 use Rattle.sts_core.specs.Check.{check_decision, chain_or_carried, issued_chain, first_denial, link_decision}
+use Rattle.sts_core.proofs.Formed.{asked_formed}
+use Rattle.sts_core.proofs.LinkWords.{lawful_words}
 
 -- ---- a denial is no admission
 
@@ -52,7 +55,8 @@ IsDenial : Decision → Type 0
 IsDenial Admit = ⊥
 IsDenial (Deny rule place) = ⊤
 
-denial_first : (rule : Option Decision) (rules : List (Option Decision)) (other : Decision) → IfSome rule IsDenial → IsDenial (first_failing rules other) → IsDenial (first_failing (rule ∷ rules) other)
+denial_first : (rule : Option Decision) (rules : List (Option Decision)) (other : Decision) → IfSome rule IsDenial → IsDenial (first_failing rules other)
+    → IsDenial (first_failing (rule ∷ rules) other)
 denial_first None rules other is rest = rest
 denial_first (Some denial) rules other is rest = is
 
@@ -66,13 +70,14 @@ unfolding IsDenial
 place_denies rule None = tt
 place_denies rule (Some place) = tt
 
-first_denies : (view : View) (found : Chain) (permission : List ℕ) (now : ℕ) → IsDenial (first_denial view found permission now)
+first_denies : (view : View) (found : Chain) (permission resource : List ℕ) (now : ℕ) → IsDenial (first_denial view found permission resource now)
 unfolding first_denial IsDenial
-first_denies view found permission now =
+first_denies view found permission resource now =
     denial_first _ _ (Deny G9 0) (unless_denies (nat_lt now (exp_of found)) G4)
     (denial_first _ _ (Deny G9 0) (place_denies G5 (place_failing (pool_enabled view) (pools_of found)))
     (denial_first _ _ (Deny G9 0) (place_denies G6 (place_failing (account_enabled view) (accounts_of found)))
-    (denial_first _ _ (Deny G9 0) (place_denies G7 (place_failing (words_allow view permission) (scopes_of found))) tt)))
+    (denial_first _ _ (Deny G9 0) (place_denies G7 (place_failing (words_allow view permission) (scopes_of found)))
+    (denial_first _ _ (Deny G9 0) (place_denies G8 (place_failing (boundary_holds view permission resource now) (bounds_of found))) tt))))
 
 no_admission : (decision : Decision) → IsDenial decision → decision ≡ Admit → ⊥
 unfolding IsDenial
@@ -86,20 +91,36 @@ decided_by : (view : View) (found : Chain) (permission resource : List ℕ) (now
 unfolding link_decision
 decided_by view found permission resource now true is = (λ h. is, λ h. rw is refl)
 decided_by view found permission resource now false is = (
-  λ h. absurd (no_admission (first_denial view found permission now) (first_denies view found permission now) (subst (λ (b : Bool). (if b then Admit else first_denial view found permission now) ≡ Admit) is h)),
+  λ h. absurd (no_admission (first_denial view found permission resource now) (first_denies view found permission resource now)
+      (subst (λ (b : Bool). (if b then Admit else first_denial view found permission resource now) ≡ Admit) is h)),
   λ h. absurd (cc (is, h)),
 )
 
 pub issued_checks : (config : Config) (journal : List Entry) (n : ℕ) (found : Chain) (permission resource : List ℕ) (now : ℕ)
     → IsFormedConfig config → Lawful config journal → length journal ≤ 2 ^ 32 → chain (content_of config journal) n ≡ Some found
-    → (check_decision (content_of config journal) (token_text (content_of config journal) found) permission resource now ≡ Admit) ↔ (admits (content_of config journal).view found permission resource now ≡ true)
+    → (check_decision (content_of config journal) (token_text (content_of config journal) found) permission resource now ≡ Admit)
+    ↔ (admits (content_of config journal).view found permission resource now ≡ true)
 unfolding check_decision
 issued_checks config journal n found permission resource now formed lawful few there =
     let c = content_of config journal in
     let text = token_text c found in
-    let issued : issued_chain c text ≡ Some found = ap (λ (o : Option ℕ). option_and_then (chain c) o) (issued_for config journal n found formed lawful few there) ∙ there in
-    subst (λ (o : Option Chain). (chain_or_carried c text permission resource now o ≡ Admit) ↔ (admits c.view found permission resource now ≡ true)) (sym issued)
+    let issued : issued_chain c text ≡ Some found =
+    ap (λ (o : Option ℕ). option_and_then (chain c) o) (issued_for config journal n found formed lawful few there) ∙ there in
+    let admitted = admits c.view found permission resource now ≡ true in
+    subst (λ (o : Option Chain). (chain_or_carried c text permission resource now o ≡ Admit) ↔ admitted) (sym issued)
     (decided_by c.view found permission resource now (admits c.view found permission resource now) refl)
+
+pub narrowed_checks : (config : Config) (journal : List Entry) (n : ℕ) (o : Own) (boundary : Option Boundary) (parent : Chain) (permission resource : List ℕ) (now : ℕ)
+    → IsFormedConfig config → Lawful config journal → length journal ≤ 2 ^ 32 → chain (content_of config journal) n ≡ Some (Narrowed o boundary parent)
+    → check_decision (content_of config journal) (token_text (content_of config journal) (Narrowed o boundary parent)) permission resource now ≡ Admit
+    → check_decision (content_of config journal) (token_text (content_of config journal) parent) permission resource now ≡ Admit
+narrowed_checks config journal n o boundary parent permission resource now formed lawful few there admitted =
+    let c = content_of config journal in
+    let found = Narrowed o boundary parent in
+    let before : chain c (own parent).number ≡ Some parent = whole_of_chain c n found (lawful_kept config journal formed lawful) there in
+    let admits_it = (issued_checks config journal n found permission resource now formed lawful few there).0 admitted in
+    (issued_checks config journal (own parent).number parent permission resource now formed lawful few before).1
+    (parent_admits c.view o boundary parent permission resource now admits_it)
 
 -- ---- a check of any other text
 
@@ -117,7 +138,8 @@ verified_by view key issuer text permission resource now (Some fault) is admitte
     absurd (no_admission (fault_decision (gate_fault fault)) (fault_denies (gate_fault fault)) admitted)
 
 pub other_checks : (config : Config) (journal : List Entry) (text permission resource : List ℕ) (now : ℕ)
-    → issued_link (content_of config journal) text ≡ None → check_decision (content_of config journal) text permission resource now ≡ Admit → MacGood (content_of config journal).key text
+    → issued_link (content_of config journal) text ≡ None → check_decision (content_of config journal) text permission resource now ≡ Admit
+    → MacGood (content_of config journal).key text
 unfolding check_decision carried_decision carried_of
 other_checks config journal text permission resource now none admitted =
     let c = content_of config journal in
@@ -127,23 +149,27 @@ other_checks config journal text permission resource now none admitted =
 
 -- ---- the journal that a step leaves
 
-ruled_lawful : (config : Config) (journal : List Entry) (e : Entry) (rule : Option RuleCode) → first_unlicensed (content_of config journal) e ≡ rule → IsEntry e → Lawful config journal
+ruled_lawful : (config : Config) (journal : List Entry) (e : Entry) (rule : Option RuleCode) → first_unlicensed (content_of config journal) e ≡ rule
+    → IsEntry e → Lawful config journal
     → Lawful config (with_entry journal (ruled (content_of config journal) e rule).entry)
 ruled_lawful config journal e None is form lawful = lawful-last (start_of config) journal e lawful form is
 ruled_lawful config journal e (Some rule) is form lawful = lawful
 
-command_lawful : (config : Config) (journal : List Entry) (command : Command) (rule : Option RuleCode) → IsCommand command → first_unlicensed (content_of config journal) (entry.Put command) ≡ rule
+command_lawful : (config : Config) (journal : List Entry) (command : Command) (rule : Option RuleCode) → IsCommand command
+    → first_unlicensed (content_of config journal) (entry.Put command) ≡ rule
     → Lawful config journal → Lawful config (with_entry journal (commanded_by (content_of config journal) command rule).entry)
 command_lawful config journal command None form is lawful = lawful-last (start_of config) journal (entry.Put command) lawful form is
 command_lawful config journal command (Some rule) form is lawful = lawful
 
-commanded_lawful : (config : Config) (journal : List Entry) (read : Result Command CommandFault) → ((command : Command) → read ≡ Ok command → IsCommand command) → Lawful config journal
+commanded_lawful : (config : Config) (journal : List Entry) (read : Result Command CommandFault)
+    → ((command : Command) → read ≡ Ok command → IsCommand command) → Lawful config journal
     → Lawful config (with_entry journal (commanded (content_of config journal) read).entry)
 commanded_lawful config journal (Err fault) form lawful = lawful
 commanded_lawful config journal (Ok command) form lawful =
     command_lawful config journal command (first_unlicensed (content_of config journal) (entry.Put command)) (form command refl) refl lawful
 
-object_lawful : (config : Config) (journal : List Entry) (object : Option Data) → Lawful config journal → Lawful config (with_entry journal (command_in (content_of config journal) object).entry)
+object_lawful : (config : Config) (journal : List Entry) (object : Option Data) → Lawful config journal
+    → Lawful config (with_entry journal (command_in (content_of config journal) object).entry)
 object_lawful config journal None lawful = lawful
 object_lawful config journal (Some d) lawful = commanded_lawful config journal (command_of d) (λ command is. command_formed d command is) lawful
 
@@ -157,36 +183,17 @@ pub administration_lawful : (config : Config) (journal : List Entry) (secret : L
 unfolding administration
 administration_lawful config journal secret request lawful = bearer_lawful config journal request (is_bearer secret request.bearer) lawful
 
--- what is asked for has its form
-under_formed : (token : List ℕ) (now : ℕ) (provider : Option Audience) → now ≤ 200_000_000_000 → IsFormedAsked (exchange_under token now provider)
-under_formed token now None low = tt
-under_formed token now (Some provider) low = record { moment = low; words = refl }
-
-of_formed : (token : Option (List ℕ)) (provider : Option Audience) (now : ℕ) → now ≤ 200_000_000_000 → IsFormedAsked (exchange_of token provider now)
-of_formed None provider now low = tt
-of_formed (Some token) provider now low = under_formed token now provider low
-
-plain_formed : (plain : Bool) (asked : Asked) → IsFormedAsked asked → IsFormedAsked (if plain then asked else Asked.Unbuilt)
-plain_formed true asked formed = formed
-plain_formed false asked formed = tt
-
-asked_formed : (form : List Parameter) (now : ℕ) → now ≤ 200_000_000_000 → IsFormedAsked (asked_for form now)
-unfolding asked_for
-asked_formed form now low =
-    let token = once (codes "subject_token") form in
-    let provider = named_provider (once (codes "audience") form) in
-    plain_formed (is_plain_exchange form) (exchange_of token provider now) (of_formed token provider now low)
-
-exchanged_lawful : (config : Config) (journal : List Entry) (asked : Asked) → IsFormedAsked asked → Lawful config journal
+exchanged_lawful : (config : Config) (journal : List Entry) (asked : Result Entry ExchangeRule) → IfOk asked IsEntry → Lawful config journal
     → Lawful config (with_entry journal (exchanged (content_of config journal) asked).entry)
-exchanged_lawful config journal Asked.Unbuilt form lawful = lawful
-exchanged_lawful config journal Asked.Nobody form lawful = lawful
-exchanged_lawful config journal (Asked.Entry e) form lawful = ruled_lawful config journal e (first_unlicensed (content_of config journal) e) refl form lawful
+exchanged_lawful config journal (Err rule) form lawful = lawful
+exchanged_lawful config journal (Ok e) form lawful = ruled_lawful config journal e (first_unlicensed (content_of config journal) e) refl form lawful
 
 pub exchange_lawful : (config : Config) (journal : List Entry) (request : Request) (now : ℕ) → now ≤ 200_000_000_000 → Lawful config journal
     → Lawful config (with_entry journal (exchange (content_of config journal) request now).entry)
 exchange_lawful config journal request now low lawful =
-    exchanged_lawful config journal (asked_for (form_of request.body) now) (asked_formed (form_of request.body) now low) lawful
+    let c = content_of config journal in
+    exchanged_lawful config journal (asked_for c (form_of request.body) now)
+    (asked_formed c (form_of request.body) now (lawful_words config journal lawful) low) lawful
 
 route_lawful : (config : Config) (journal : List Entry) (request : Request) (route : Route) (now : ℕ) → now ≤ 200_000_000_000 → Lawful config journal
     → Lawful config (with_entry journal (step_of route config (content_of config journal) request now).entry)
@@ -202,6 +209,7 @@ step_lawful config journal request now low lawful = route_lawful config journal 
 
 -- ---- the state that a step leaves
 
-pub state_left : (config : Config) (journal : List Entry) (added : Option Entry) → state_after (content_of config journal) (with_entry [] added) ≡ content_of config (with_entry journal added)
+pub state_left : (config : Config) (journal : List Entry) (added : Option Entry)
+    → state_after (content_of config journal) (with_entry [] added) ≡ content_of config (with_entry journal added)
 state_left config journal None = refl
 state_left config journal (Some e) = sym (state_after-append (start_of config) journal (e ∷ []))

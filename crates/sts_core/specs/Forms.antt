@@ -1,9 +1,14 @@
--- What the form of a request says (application/x-www-form-urlencoded).
-use Rattle.std.specs.Prelude.{ℕ, ◌&&◌, ◌==◌, ◌||◌, List, [], ◌∷◌, length, map, Bool, true, false, not, nat_lt, Option, None, Some, if◌then◌else◌}
+-- What the body of a request says: a form (application/x-www-form-urlencoded), or a JSON object.
+use Rattle.std.specs.Prelude.{ℕ, ◌&&◌, ◌==◌, ◌||◌, List, [], ◌∷◌, length, map, Bool, true, false, not, nat_lt, Option}
+use Rattle.std.specs.Prelude.{None, Some, is_some, option_and_then, if◌then◌else◌}
 use Rattle.std.specs.List.{list_all}
 use Rattle.std.specs.Str.{bytes_eq}
 use Rattle.std.specs.Str.Lossy.{utf8_lossy}
 use Rattle.form_urlencoded.specs.Form.{raw_pairs, decode}
+use Rattle.base_types.specs.Forms.{passing}
+use Rattle.json_text.specs.Document.{document}
+use Rattle.serde_json.specs.Data.{Data}
+use Rattle.serde_json.specs.Find.{as_object}
 use Rattle.sts_core.specs.declared.form.Parameter.{Parameter}
 
 -- a name and a value as they are decoded, with U+FFFD where the bytes are no UTF-8
@@ -54,3 +59,23 @@ has_none (value ∷ more) = false
 -- the parameter has no value
 abbrev pub is_absent : List Parameter → List ℕ → Bool
 is_absent form name = has_none (values name form)
+
+-- the list has two or more
+abbrev pub has_two : List (List ℕ) → Bool
+has_two [] = false
+has_two (value ∷ []) = false
+has_two (value ∷ other ∷ more) = true
+
+-- the parameter has a value twice
+abbrev pub is_repeated : List Parameter → List ℕ → Bool
+is_repeated form name = has_two (values name form)
+
+-- ---- JSON objects
+
+-- the value is a JSON object
+abbrev pub is_object : Data → Bool
+is_object d = is_some (as_object d)
+
+-- the object that bytes are
+abbrev pub object_of : List ℕ → Option Data
+object_of bytes = option_and_then (passing is_object) (document bytes)

@@ -1,6 +1,6 @@
+pub mod Answers
 pub mod Asked
 pub mod Check
-pub mod Formed
 pub mod Forms
 pub mod Machine
 pub mod Refusals

@@ -1,6 +1,6 @@
 -- The machine: what the service replies to a request, and which entry it adds to its journal.
 use Rattle.std.specs.Prelude.{ℕ, List, [], ◌∷◌, ◌++◌, Bool, false, not, if◌then◌else◌}
-use Rattle.std.specs.Prelude.{Option, None, Some, option_and_then, is_some, codes, Result, Ok, Err}
+use Rattle.std.specs.Prelude.{Option, None, Some, codes, Result, Ok, Err}
 use Rattle.std.specs.Str.{bytes_eq}
 use Rattle.base_types.specs.Rules.{fails_if, first_failing}
 use Rattle.wif_base.specs.declared.route.Route.{Route}
@@ -11,17 +11,14 @@ use Rattle.service_config.specs.declared.config.Config.{Config}
 use Rattle.links.specs.declared.entry.Entry.{Entry}
 use Rattle.links.specs.declared.entry.Entry.TheVariants.{Put}
 use Rattle.serde_json.specs.Data.{Data}
-use Rattle.serde_json.specs.Find.{as_object}
-use Rattle.json_text.specs.Document.{document, text_at}
+use Rattle.json_text.specs.Document.{text_at}
 use Rattle.iam_names.specs.Forms.{is_permission, is_resource}
 use Rattle.json_text.specs.Members.{name_at}
 use Rattle.sts_core.specs.Check.{check_decision, issued_chain}
-use Rattle.base_types.specs.Forms.{passing}
 use Rattle.service_view.specs.declared.command.Command.{Command}
 use Rattle.sts_admin.specs.declared.command.CommandFault.{CommandFault}
 use Rattle.sts_admin.specs.Commands.{command_of}
 use Rattle.links.specs.declared.fault.RuleCode.{RuleCode}
-use Rattle.links.specs.declared.fault.RuleCode.TheVariants.{E14}
 use Rattle.access_token.specs.Active.{active_text}
 use Rattle.links.specs.Chain.{Chain}
 use Rattle.links.specs.Facts.{facts_of}
@@ -29,10 +26,10 @@ use Rattle.links.specs.Licence.{first_unlicensed, prepared_of}
 use Rattle.links.specs.Authority.{live}
 use Rattle.links.specs.State.{Content, content_of}
 use Rattle.sts_core.specs.Asked.{asked_for}
-use Rattle.sts_core.specs.declared.exchange.Asked.{Asked}
-use Rattle.sts_core.specs.Forms.{form_of, is_all_text, once}
-use Rattle.sts_core.specs.Refusals.{refusal_of, command_refusal}
-use Rattle.sts_core.specs.Replies.{u1, n2, a1, bad_argument, decision_reply, not_built, inactive, issued, entered}
+use Rattle.sts_core.specs.declared.exchange_rule.ExchangeRule.{ExchangeRule}
+use Rattle.sts_core.specs.Forms.{form_of, is_all_text, object_of, once}
+use Rattle.sts_core.specs.Refusals.{refusal_of, exchange_refusal, command_refusal}
+use Rattle.sts_core.specs.Replies.{u1, n1, n2, a1, bad_argument, decision_reply, not_built, inactive, issued, entered}
 
 -- the reply to a request, and the entry that it adds to the journal, if any
 pub record Answer : Type 0 where
@@ -64,7 +61,7 @@ told_token c now (Some token) = told c now (issued_chain c token)
 unfoldable pub introspection_reply : List ℕ → Content → Request → ℕ → Reply
 introspection_reply gate c request now = first_failing (
     fails_if (not (is_bearer gate request.bearer)) u1 ∷
-    fails_if (not (is_all_text (form_of request.body))) not_built ∷ []
+    fails_if (not (is_all_text (form_of request.body))) n1 ∷ []
     ) (told_token c now (once (codes "token") (form_of request.body)))
 
 -- ---- the exchange (RFC 8693)
@@ -74,15 +71,14 @@ abbrev pub ruled : Content → Entry → Option RuleCode → Answer
 ruled c entry (Some rule) = no_entry (refusal_of rule)
 ruled c entry None = record { reply = issued (prepared_of c entry); entry = Some entry }
 
--- a form that asks for an exchange of another kind or of no provider is refused, and an exchange is ruled on
-abbrev pub exchanged : Content → Asked → Answer
-exchanged c Asked.Unbuilt = no_entry not_built
-exchanged c Asked.Nobody = no_entry (refusal_of E14)
-exchanged c (Asked.Entry entry) = ruled c entry (first_unlicensed c entry)
+-- a form that fails a rule is refused, and the entry that another asks for is ruled on
+abbrev pub exchanged : Content → Result Entry ExchangeRule → Answer
+exchanged c (Err rule) = no_entry (exchange_refusal rule)
+exchanged c (Ok entry) = ruled c entry (first_unlicensed c entry)
 
 -- what is asked for is issued, where no rule forbids it
 abbrev pub exchange : Content → Request → ℕ → Answer
-exchange c request now = exchanged c (asked_for (form_of request.body) now)
+exchange c request now = exchanged c (asked_for c (form_of request.body) now)
 
 -- ---- commands
 
@@ -95,14 +91,6 @@ commanded_by c command None = record { reply = entered (c.count); entry = Some (
 abbrev pub commanded : Content → Result Command CommandFault → Answer
 commanded c (Err fault) = no_entry (command_refusal fault)
 commanded c (Ok command) = commanded_by c command (first_unlicensed c (Put command))
-
--- the value is a JSON object
-abbrev pub is_object : Data → Bool
-is_object d = is_some (as_object d)
-
--- the object that a body is
-abbrev pub object_of : List ℕ → Option Data
-object_of body = option_and_then (passing is_object) (document body)
 
 -- a body that is no object is refused, and what an object asks for is read and ruled on
 abbrev pub command_in : Content → Option Data → Answer

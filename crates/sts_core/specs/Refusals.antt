@@ -1,16 +1,53 @@
 -- The replies to what a rule forbids.
 use Rattle.std.specs.Prelude.{ℕ, ◌++◌, List, codes}
+use Rattle.std.specs.Fmt.{decimal}
 use Rattle.wif_base.specs.declared.request.Reply.{Reply}
 use Rattle.links.specs.declared.fault.RuleCode.{RuleCode}
 use Rattle.links.specs.Refusals.{rule_text, word_of}
 use Rattle.sts_admin.specs.Names.{member_name}
 use Rattle.sts_admin.specs.declared.command.CommandFault.{CommandFault}
 use Rattle.sts_admin.specs.declared.command.CommandFault.TheVariants.{Kind, Field, Expression, Memory}
-use Rattle.sts_core.specs.Replies.{refusal, bad_argument}
+use Rattle.boundary.specs.declared.fault.BoundaryCause.{BoundaryCause}
+use Rattle.boundary.specs.declared.fault.BoundaryCause.TheVariants as cause
+use Rattle.sts_core.specs.declared.exchange_rule.ExchangeRule.{ExchangeRule}
+use Rattle.sts_core.specs.declared.exchange_rule.ExchangeRule.TheVariants as exchange
+use Rattle.sts_core.specs.Replies.{refusal, bad_argument, not_built}
 
 -- the reply to what a rule forbids: its word, its code and its detail
 abbrev pub refusal_of : RuleCode → Reply
 refusal_of rule = refusal 400 (word_of rule) (rule_text rule)
+
+-- ---- exchanges
+
+-- the name of a cause for which a boundary is refused
+abbrev pub cause_text : BoundaryCause → List ℕ
+cause_text cause.Shape = codes "Shape"
+cause_text cause.TooMany = codes "TooMany"
+cause_text cause.Resource = codes "Resource"
+cause_text cause.Permission = codes "Permission"
+cause_text cause.Condition = codes "Condition"
+
+-- a request that is no exchange as it should be (RFC 6749, section 5.2)
+abbrev pub invalid_request : List ℕ → Reply
+invalid_request text = refusal 400 (codes "invalid_request") text
+
+-- the reply to an exchange that fails the rule: its word, its code and its detail (RFC 8693, section 2.2.2)
+abbrev pub exchange_refusal : ExchangeRule → Reply
+exchange_refusal exchange.E1 = invalid_request (codes "E1")
+exchange_refusal exchange.E2 = invalid_request (codes "E2")
+exchange_refusal exchange.E3 = invalid_request (codes "E3")
+exchange_refusal exchange.E4 = refusal 400 (codes "unsupported_grant_type") (codes "E4")
+exchange_refusal exchange.E5 = invalid_request (codes "E5")
+exchange_refusal exchange.E6 = invalid_request (codes "E6")
+exchange_refusal exchange.E7 = invalid_request (codes "E7")
+exchange_refusal exchange.E8 = invalid_request (codes "E8")
+exchange_refusal exchange.E9 = invalid_request (codes "E9")
+exchange_refusal exchange.E10 = refusal 400 (codes "invalid_target") (codes "E10")
+exchange_refusal exchange.Options = invalid_request (codes "E12 Json")
+exchange_refusal (exchange.Boundary rule cause) = invalid_request (codes "E12 " ++ (cause_text cause ++ (codes " " ++ decimal rule)))
+exchange_refusal exchange.E13 = invalid_request (codes "E13")
+exchange_refusal exchange.Unbuilt = not_built
+exchange_refusal (exchange.Unlicensed rule) = refusal_of rule
 
 -- ---- commands that have no form
 

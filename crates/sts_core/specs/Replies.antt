@@ -23,6 +23,10 @@ refusal status word text = record {
 abbrev pub u1 : Reply
 u1 = refusal 401 (codes "invalid_token") (codes "U1")
 
+-- a name or a value of the form isn't UTF-8
+abbrev pub n1 : Reply
+n1 = refusal 400 (codes "invalid_request") (codes "N1")
+
 -- the token isn't there exactly once with a value
 abbrev pub n2 : Reply
 n2 = refusal 400 (codes "invalid_request") (codes "N2")
@@ -92,6 +96,7 @@ rule_code gate.G4 = codes "G4"
 rule_code gate.G5 = codes "G5"
 rule_code gate.G6 = codes "G6"
 rule_code gate.G7 = codes "G7"
+rule_code gate.G8 = codes "G8"
 rule_code gate.G9 = codes "G9"
 
 -- the member that tells the place, with the rules of lists
@@ -99,6 +104,7 @@ abbrev pub place_member : GateRule → ℕ → List ℕ
 place_member gate.G5 place = codes "\"place\":" ++ (decimal place ++ codes ",")
 place_member gate.G6 place = codes "\"place\":" ++ (decimal place ++ codes ",")
 place_member gate.G7 place = codes "\"place\":" ++ (decimal place ++ codes ",")
+place_member gate.G8 place = codes "\"place\":" ++ (decimal place ++ codes ",")
 place_member gate.G1 place = []
 place_member gate.G2 place = []
 place_member gate.G3 place = []

@@ -1,16 +1,16 @@
 ghost use Rattle.std.specs.Prelude.{◌≡◌, IfOk, option_map};
 ghost use Rattle.serde_json.specs.View.{view};
-ghost use Rattle.sts_core.specs.Machine.{object_of};
+ghost use Rattle.sts_core.specs.Forms.{object_of};
 
 use json_text::{DocumentFault, read_document};
 use serde_json::Value;
 use std::alloc::{AllocError, Global};
 
-/// The JSON object that a body is.
-pub(crate) fn read_object(alloc: Global, body: &[u8]) -> Result<Option<Value>, AllocError>
-    ensures { IfOk result (λ found. option_map (λ json. view json) found ≡ object_of body.now) }
+/// The JSON object that bytes are.
+pub(crate) fn read_object(alloc: Global, bytes: &[u8]) -> Result<Option<Value>, AllocError>
+    ensures { IfOk result (λ found. option_map (λ json. view json) found ≡ object_of bytes.now) }
 {
-    match read_document(alloc, body) {
+    match read_document(alloc, bytes) {
         Ok(json) => {
             if json.as_object().is_some() {
                 return Ok(Some(json));

@@ -83,6 +83,14 @@ pub(crate) fn is_absent(form: &[Parameter], name: &str) -> bool
     true
 }
 
+/// Whether a parameter has a value twice.
+#[tactic(auto, using(crate::proofs::Ones::has_two_is))]
+pub(crate) fn is_repeated(form: &[Parameter], name: &str) -> bool
+    ensures { result ≡ forms.is_repeated form.now name.now }
+{
+    !is_absent(form, name) && once(form, name).is_none()
+}
+
 // Whether U+FFFD is there, which stands for bytes that are no UTF-8.
 fn holds_replacement(text: &[u8]) -> bool
     ensures { result ≡ forms.holds_replacement text.now }

@@ -4,7 +4,7 @@ ghost use Rattle.sts_core.specs.Check.{issued_chain};
 ghost use Rattle.sts_core.specs.Machine.{introspection_reply, is_bearer as bearer_is, told};
 
 use crate::form::{is_all_text, once, read_form};
-use crate::reply::{inactive, json_reply, no_bearer, no_token, not_built};
+use crate::reply::{inactive, json_reply, no_bearer, no_text, no_token};
 use access_token::write_active;
 use base_types::Text;
 use links::{State, facts_of, find_issued, live};
@@ -27,7 +27,7 @@ pub(crate) fn introspect(
     }
     let form = read_form(alloc, request.body.as_slice())?;
     if !is_all_text(form.as_slice()) {
-        return not_built(alloc);
+        return no_text(alloc);
     }
     match once(form.as_slice(), "token") {
         Some(token) => tell(alloc, state, token, now),

@@ -1,11 +1,13 @@
-ghost use Rattle.std.specs.Prelude.{◌≡◌, ◌≢◌, ◌≤◌, ◌^◌, ◌++◌, ◌↔◌, true, ℕ, List, None, Some, length};
+ghost use Rattle.std.specs.Prelude.{◌≡◌, ◌≢◌, ◌≤◌, ◌^◌, ◌++◌, ◌↔◌, true, ℕ, List, Option, None, Some, length};
 ghost use Rattle.grant_gate.specs.Decision.{carried_decision};
 ghost use Rattle.grant_gate.specs.declared.decision.Decision.TheVariants.{Admit};
 ghost use Rattle.hmac_jws.specs.Verified.{MacGood};
 ghost use Rattle.service_config.specs.declared.config.Config.{Config};
 ghost use Rattle.service_config.specs.Formed.{IsFormedConfig};
 ghost use Rattle.links.specs.Authority.{admits};
-ghost use Rattle.links.specs.Chain.{Chain};
+ghost use Rattle.boundary.specs.declared.rules.Boundary.{Boundary as Limits};
+ghost use Rattle.links.specs.Chain.{Chain, Narrowed, Own};
+ghost use Rattle.links.specs.Facts.{exp_of};
 ghost use Rattle.links.specs.Issued.{issued_link};
 ghost use Rattle.links.specs.Licence.{Lawful};
 ghost use Rattle.links.specs.State.{chain, content_of, token_text};
@@ -35,6 +37,19 @@ pub fn checks_are_decided_by_their_links()
     ensures other { (config : Config) (journal : List Entry) (text permission resource : List ℕ) (now : ℕ)
         → let c = content_of config journal in
         issued_link c text ≡ None → check_decision c text permission resource now ≡ Admit → MacGood c.key text }
+{}
+
+/// A law: what a check admits of a narrowed token, it admits at that moment of the token that was narrowed, and a narrowed token ends
+/// no later.
+pub fn a_narrowed_token_is_admitted_to_no_more()
+    ensures admitted { (config : Config) (journal : List Entry) (number : ℕ) (o : Own) (boundary : Option Limits) (parent : Chain)
+        (permission resource : List ℕ) (now : ℕ)
+        → IsFormedConfig config → Lawful config journal → length journal ≤ 2 ^ 32
+        → let c = content_of config journal in
+        chain c number ≡ Some (Narrowed o boundary parent)
+        → check_decision c (token_text c (Narrowed o boundary parent)) permission resource now ≡ Admit
+        → check_decision c (token_text c parent) permission resource now ≡ Admit }
+    ensures ends { (o : Own) (boundary : Option Limits) (parent : Chain) → exp_of (Narrowed o boundary parent) ≤ exp_of parent }
 {}
 
 /// A law: from a lawful journal each step of the machine leaves a lawful journal.

@@ -1,8 +1,11 @@
 ghost use Rattle.std.specs.Prelude.{◌≡◌, IfOk};
 ghost use Rattle.sts_core.specs.Refusals as refusals;
+ghost use Rattle.sts_core.specs.declared.exchange_rule.ExchangeRule.TheVariants as rules;
 
-use crate::reply::{bad_argument, refused};
+use crate::exchange_rule::ExchangeRule;
+use crate::reply::{bad_argument, not_built, refused};
 use base_types::Text;
+use boundary::BoundaryCause;
 use links::RuleCode;
 use std::alloc::{AllocError, Global};
 use sts_admin::CommandFault;
@@ -14,6 +17,57 @@ pub(crate) fn refusal_of(alloc: Global, rule: &RuleCode) -> Result<Reply, AllocE
 {
     let text = rule.text(alloc)?;
     refused(alloc, 400, rule.word(), text.as_str())
+}
+
+/// The reply to an exchange that fails the rule (RFC 8693, section 2.2.2).
+pub(crate) fn exchange_refused(alloc: Global, rule: &ExchangeRule) -> Result<Reply, AllocError>
+    ensures { IfOk result (λ reply. reply ≡ refusals.exchange_refusal rule.now) }
+{
+    match rule {
+        ExchangeRule::E1 => invalid_request(alloc, "E1"),
+        ExchangeRule::E2 => invalid_request(alloc, "E2"),
+        ExchangeRule::E3 => invalid_request(alloc, "E3"),
+        ExchangeRule::E4 => refused(alloc, 400, "unsupported_grant_type", "E4"),
+        ExchangeRule::E5 => invalid_request(alloc, "E5"),
+        ExchangeRule::E6 => invalid_request(alloc, "E6"),
+        ExchangeRule::E7 => invalid_request(alloc, "E7"),
+        ExchangeRule::E8 => invalid_request(alloc, "E8"),
+        ExchangeRule::E9 => invalid_request(alloc, "E9"),
+        ExchangeRule::E10 => refused(alloc, 400, "invalid_target", "E10"),
+        ExchangeRule::Options => invalid_request(alloc, "E12 Json"),
+        ExchangeRule::Boundary { rule, cause } => boundary_refused(alloc, *rule, *cause),
+        ExchangeRule::E13 => invalid_request(alloc, "E13"),
+        ExchangeRule::Unbuilt => not_built(alloc),
+        ExchangeRule::Unlicensed(code) => refusal_of(alloc, code),
+    }
+}
+
+// A request that is no exchange as it should be (RFC 6749, section 5.2).
+fn invalid_request(alloc: Global, text: &str) -> Result<Reply, AllocError>
+    ensures { IfOk result (λ reply. reply ≡ refusals.invalid_request text.now) }
+{
+    refused(alloc, 400, "invalid_request", text)
+}
+
+// The rule of a boundary that is refused, and why.
+fn boundary_refused(alloc: Global, rule: usize, cause: BoundaryCause) -> Result<Reply, AllocError>
+    ensures { IfOk result (λ reply. reply ≡ refusals.exchange_refusal (rules.Boundary rule cause)) }
+{
+    let name = cause_name(cause);
+    let text = Text::new(format!(in alloc; "E12 {name} {rule}")?);
+    invalid_request(alloc, text.as_str())
+}
+
+fn cause_name(cause: BoundaryCause) -> &'static str
+    ensures { result.now ≡ refusals.cause_text cause }
+{
+    match cause {
+        BoundaryCause::Shape => "Shape",
+        BoundaryCause::TooMany => "TooMany",
+        BoundaryCause::Resource => "Resource",
+        BoundaryCause::Permission => "Permission",
+        BoundaryCause::Condition => "Condition",
+    }
 }
 
 /// The reply to a command without a form.

@@ -14,7 +14,8 @@ use serde_json::{Map, Value};
 use std::alloc::{AllocError, Global};
 use wif_base::Reply;
 
-const ACCESS_TOKEN_TYPE: &str = "urn:ietf:params:oauth:token-type:access_token";
+/// The type of the tokens that are issued (RFC 8693, section 3).
+pub(crate) const ACCESS_TOKEN_TYPE: &str = "urn:ietf:params:oauth:token-type:access_token";
 
 fn reply_of(alloc: Global, status: u16, body: &[u8]) -> Result<Reply, AllocError>
     ensures { IfOk result (λ reply. reply ≡ record { status = status; body = body.now }) }
@@ -53,6 +54,16 @@ pub(crate) fn no_bearer(alloc: Global) -> Result<Reply, AllocError>
         alloc,
         401,
         b"{\"error\":\"invalid_token\",\"error_description\":\"U1\"}",
+    )
+}
+
+pub(crate) fn no_text(alloc: Global) -> Result<Reply, AllocError>
+    ensures { IfOk result (λ reply. reply ≡ replies.n1) }
+{
+    reply_of(
+        alloc,
+        400,
+        b"{\"error\":\"invalid_request\",\"error_description\":\"N1\"}",
     )
 }
 
@@ -194,7 +205,7 @@ fn place_member(alloc: Global, rule: GateRule, place: usize) -> Result<Text, All
     ensures { IfOk result (λ text. text ≡ replies.place_member rule place) }
 {
     match rule {
-        GateRule::G5 | GateRule::G6 | GateRule::G7 => {
+        GateRule::G5 | GateRule::G6 | GateRule::G7 | GateRule::G8 => {
             Ok(Text::new(format!(in alloc; "\"place\":{place},")?))
         }
         GateRule::G1 | GateRule::G2 | GateRule::G3 | GateRule::G4 | GateRule::G9 => {
@@ -214,6 +225,7 @@ fn code_of(rule: GateRule) -> &'static str
         GateRule::G5 => "G5",
         GateRule::G6 => "G6",
         GateRule::G7 => "G7",
+        GateRule::G8 => "G8",
         GateRule::G9 => "G9",
     }
 }

@@ -16,5 +16,8 @@ returns-then-number-link_count c =
     let past : length content.links ≤ c.in-Some.number = omega arith in
     let number : issued_link content c.args.token.now ≡ Some c.in-Some.number = sym c.in_ok-number.ensures ∙ c.in-Some.is in
     let is : issued_chain content c.args.token.now ≡ None =
-    ap (λ (n : Option ℕ). option_and_then (chain content) n) number ∙ chain-missing content c.in-Some.number (slice_get_past content.links c.in-Some.number past) in
-    IfOk-weaker c.inactive-then-number-link_count.result _ _ (λ reply tells. tells ∙ ap (λ (o : Option Chain). told content c.args.now o) (sym is)) c.inactive-then-number-link_count.ensures
+    ap (λ (n : Option ℕ). option_and_then (chain content) n) number
+    ∙ chain-missing content c.in-Some.number (slice_get_past content.links c.in-Some.number past) in
+    IfOk-weaker c.inactive-then-number-link_count.result _ _
+    (λ reply tells. tells ∙ ap (λ (o : Option Chain). told content c.args.now o) (sym is))
+    c.inactive-then-number-link_count.ensures

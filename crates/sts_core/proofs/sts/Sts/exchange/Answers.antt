@@ -7,5 +7,6 @@ use Rattle.sts_core.proofs.sts.Sts.exchange.Goals as goal
 
 pub returns-clause-stands : goal.returns-clause-stands
 returns-clause-stands g c = λ config journal stands.
-    stands_after c.exchange.result c.args.self.now _ config journal (λ (k : Content). exchange k c.args.request.now c.args.now) stands refl refl c.exchange.ensures.content
+    stands_after c.exchange.result c.args.self.now _ config journal (λ (k : Content). exchange k c.args.request.now c.args.now)
+    stands refl refl c.exchange.ensures.content
     (exchange_lawful config journal c.args.request.now c.args.now c.requires.moment stands.lawful)
