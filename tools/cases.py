@@ -5,8 +5,8 @@ service does. `python3 tools/stored_run.py` makes the run again.
 """
 import json
 
-from model import EVERY, OAUTH, nested
-from signing import AT, HEADER, compact, encoded, exchange_pairs, form, provider_name, signed
+from model import ACCESS, EVERY, EXCHANGE, OAUTH, nested
+from signing import AT, HEADER, compact, decoded, encoded, exchange_pairs, form, provider_name, signed
 
 ISSUER, ADMIN, GATE = 'https://sts.example', 'admin-secret-000001', 'gate-secret-0000001'
 OWN, OUTSIDE = b'S' * 32, b'P' * 32
@@ -58,9 +58,11 @@ def actors(count, text, innermost=None):
 # The requests.
 
 def exchange(want, token=None, at=AT, tail='', **changes):
-    """An exchange of a token; `changes` puts other values, None leaves one out, and `tail` is more of the form's text."""
-    pairs = [(name, changes.get(name, value)) for name, value in exchange_pairs(START, subject() if token is None else token)]
-    add(want, '/v1/token', '-', at, form([pair for pair in pairs if pair[1] is not None]) + tail)
+    """An exchange of a token; `changes` puts other values and parameters, where None leaves one out and a list puts it more than once,
+    and `tail` is more of the form's text."""
+    pairs = dict(exchange_pairs(START, subject() if token is None else token), **changes)
+    listed = [(name, one) for name, value in pairs.items() for one in (value if isinstance(value, list) else [value]) if one is not None]
+    add(want, '/v1/token', '-', at, form(listed) + tail)
 
 
 def introspect(want, token, at=AT, tail=''):
@@ -107,8 +109,8 @@ for path, bearer, body in [('/v1/none', '-', ''), ('/', '-', ''), ('/v1/introspe
     add('H4', path, bearer, 0, body)
 
 # What isn't built yet, and a request to each route that is refused.
-add('Z1', '/v1/token', '-', AT, 'grant_type=x')
-add('Z1', '/v1/token?a=b', '-', AT, '')
+add('E4', '/v1/token', '-', AT, 'grant_type=x')
+add('E3', '/v1/token?a=b', '-', AT, '')
 add('U1', '/v1/check', '-', 0, '')
 add('A2', '/v1/admin', ADMIN, 0, '{}')
 add('Z1', GENERATE + ':generateAccessToken', '-', 0, '')
@@ -119,11 +121,9 @@ add('Z1', GENERATE + 'a:generateAccessToken?x', '-', 0, '')
 for bearer in ('-', ADMIN, GATE + '1', GATE[:-1], 'G' + GATE[1:], 'v' * 8192, '--'):
     asks('U1', 'token=a', bearer)
 asks('U1', 'token=%FF', '-')
-asks('Z1', 'token=%FF')
-asks('Z1', 'token=a&colour=%C0')
-asks('Z1', 'tok%FFen=a')
-asks('Z1', 'token=%EF%BF%BD')
-asks('Z1', 'token=\ufffd')
+for body in ('token=%FF', 'token=a&colour=%C0', 'tok%FFen=a', 'token=%EF%BF%BD', 'token=\ufffd', 'token=a&token=b&%FF=', 'colour=%ED%A0%80',
+             'token=a&colour=x\ufffdx', b'token=a\xff'):
+    asks('N1', body)
 for body in ('', 'token', 'token=', 'token=a&token=b', 'token=a&token=a', 'Token=a', 'token%3Da', 'token=a&t%6Fken=b'):
     asks('N2', body)
 for body in ('token=a', 'token=a&token=', 'token=&token=a&colour=red', 't%6Fken=a', '&&token=a+b&'):
@@ -178,22 +178,25 @@ for fault, change in [('Aud', {'aud': 7}), ('Exp', {'exp': 'x'}), ('Nbf', {'nbf'
                       ('Exp', {'exp': 2 ** 53})]:
     exchange('E17 ' + fault, subject(claims(**change)))
 
-# A parameter that asks for more isn't built yet; without a value it counts as absent. The audience names one known provider.
-for name in ('requested_token_type', 'actor_token', 'actor_token_type', 'resource', 'scope', 'options'):
-    exchange('Z1', tail=f'&{name}=x')
+# A parameter without a value counts as absent. The audience names one known provider.
+for name, want in [('requested_token_type', 'E7'), ('actor_token', 'E8'), ('actor_token_type', 'E8'), ('resource', 'E10'), ('scope', 'E11'),
+                   ('options', 'E12 Json')]:
+    exchange(want, tail=f'&{name}=x')
     exchange('issued', tail=f'&{name}=')
-for (name, value), want in zip(exchange_pairs(START, subject()), ('Z1', 'E14', 'Z1', 'Z1'), strict=True):
-    exchange(want, **{name: None})
-    exchange(want, tail='&' + form([(name, value)]))
-exchange('Z1', grant_type=OAUTH + 'grant-type:jwt-bearer')
+for (name, value), (without, twice) in zip(exchange_pairs(START, subject()),
+                                           [('E3', 'E2'), ('E14', 'E14'), ('E5', 'E2'), ('E6', 'E2')], strict=True):
+    exchange(without, **{name: None})
+    exchange(twice, tail='&' + form([(name, value)]))
+exchange('E4', grant_type=OAUTH + 'grant-type:jwt-bearer')
 for audience in (NAME + 'x', 'https:' + NAME, NAME[:-1], 'github'):
     exchange('E14', audience=audience)
 exchange('E16 Parts', 'a.b', subject_token_type=ID_TOKEN)
-exchange('Z1', subject_token_type=OAUTH + 'token-type:access_token')
-exchange('Z1', subject_token_type=OAUTH + 'token-type:saml2')
-exchange('Z1', subject_token_type=OAUTH + 'token-type:access_token', audience=NAME + 'x')
-exchange('Z1', tail='&colour=%FF')
-exchange('Z1', tail='&scope=x', audience=NAME + 'x')
+exchange('E14', subject_token_type=ACCESS)
+exchange('E21', subject_token_type=ACCESS, audience=None)
+exchange('E6', subject_token_type=OAUTH + 'token-type:saml2')
+exchange('E14', subject_token_type=ACCESS, audience=NAME + 'x')
+exchange('E1', tail='&colour=%FF')
+exchange('E11', tail='&scope=x', audience=NAME + 'x')
 exchange('issued', tail='&colour=red')
 
 # Only the very text that was issued is active.
@@ -486,11 +489,12 @@ def puts(command, at=AT):
     admin(f'entry {recorded()}', command, at=at)
 
 
-def latest(who=(), path=PATH, at=AT, **changes):
+def latest(who=(), path=PATH, at=AT, scope=EVERY, **changes):
     """The token that the last exchange issued, where `who` tells of its identity what isn't that of FULL under the first world."""
     links = sum(want == 'issued' for want, *_ in CASES)
     who = dict({'attributes': {'repository': 'octo/app'}, 'groups': [], 'pool': '1234/ci-pool', 'subject': SUBJECT}, **dict(who))
-    return access(jti=str(links - 1), iat=at, sub=f"principal://{path}/subject/{who['subject']}", wif={'who': who, 'pools': [who['pool']]}, **changes)
+    wif = {'who': who, 'pools': [who['pool']], 'scopes': [scope]}
+    return access(jti=str(links - 1), iat=at, scope=scope, sub=f"principal://{path}/subject/{who['subject']}", wif=wif, **changes)
 
 
 # A build system's world: a provider with a mapping and a condition, roles, accounts, policies.
@@ -1005,13 +1009,678 @@ exchange('issued', subject(dict(FULL, may_act=actors(6, 'a' * 1024, 'a' * 318)))
 introspect('active', latest(may_act=actors(6, 'a' * 1024, 'a' * 318)))
 exchange('E25', subject(dict(FULL, may_act=actors(6, 'a' * 1024, 'a' * 319))))
 
+# The form of an exchange, rule by rule: its parameters, each there once at most and with one of its values.
+JWT = OAUTH + 'token-type:jwt'
+SINGLE = {'grant_type': EXCHANGE, 'subject_token': SORTED, 'subject_token_type': JWT, 'actor_token': 'x', 'actor_token_type': ACCESS,
+          'requested_token_type': ACCESS, 'scope': EVERY, 'options': '{}'}
+
+
+def asked(want, tail='', **changes):
+    exchange(want, SORTED, tail=tail, **changes)
+
+
+for tail in ('colour=%EF%BF%BD', 'colour=\ufffd', 'colour=x%EF%BF%BDx', '%EF%BF%BD=x', '%FF', '=%FF', 'colour=%E2%82', 'colour=%EF%BF',
+             'colour=%ED%A0%80', 'colour=%C0%80', 'colour=%F4%90%80%80', 'colour=x%80x', 'scope=%FF', 'options=%FF', 'actor_token=%FF'):
+    asked('E1', '&' + tail)
+for tail in ('colour=%EF%BF%BE', 'colour=%', 'colour=%F', 'colour=%G0', 'colour=%00', '%F0%9F%98%80=%F4%8F%BF%BF', '&', '=', '=x'):
+    asked('issued', '&' + tail)
+for name, value in SINGLE.items():
+    asked('E2', **{name: [value, value]})
+    asked('E2', **{name: ['x', value]})
+    asked('issued', **{name: ['', '' if name.startswith('actor') else value, '']})
+asked('E2', '&sc%6Fpe=x', scope=EVERY)
+asked('issued', ''.join('&' + name for name in SINGLE))
+asked('issued', colour=['red', 'red'], Scope='none', SCOPE='none')
+asked('E10', resource=['x', 'x'])
+asked('E14', audience=[NAME, NAME])
+asked('issued', audience=['', NAME, ''])
+for name, code in [('grant_type', 'E3'), ('subject_token', 'E5'), ('subject_token_type', 'E6')]:
+    asked(code, **{name: ''})
+    asked(code, **{name: None, name.upper(): SINGLE[name]})
+for grant in (EXCHANGE + ' ', ' ' + EXCHANGE, EXCHANGE.upper(), EXCHANGE[:-1], EXCHANGE + '/', 'token-exchange', 'password', 'x', OAUTH, ACCESS):
+    asked('E4', grant_type=grant)
+for kind in ('jwt', 'access_token', OAUTH + 'token-type:refresh_token', OAUTH + 'token-type:saml1', OAUTH + 'token-type:', JWT.upper(), ' ' + JWT,
+             ACCESS + ' ', ACCESS[:-1]):
+    asked('E6', subject_token_type=kind)
+    asked('E7', requested_token_type=kind)
+    asked('E9', actor_token='x', actor_token_type=kind)
+for kind in (JWT, ID_TOKEN):
+    asked('issued', subject_token_type=kind)
+    asked('E7', requested_token_type=kind)
+    asked('E9', actor_token='x', actor_token_type=kind)
+asked('issued', requested_token_type=ACCESS)
+for kind in (JWT, ID_TOKEN, ACCESS, 'x'):
+    asked('E8', actor_token_type=kind)
+    asked('E8', actor_token_type=kind, subject_token_type=ACCESS)
+for token in ('x', SORTED, ' '):
+    asked('E8', actor_token=token)
+    asked('E8', actor_token=token, actor_token_type='', subject_token_type=ACCESS)
+for resource in ('x', BUCKET, NAME, ' '):
+    asked('E10', resource=resource)
+    asked('E10', resource=resource, subject_token_type=ACCESS, audience=None)
+
+# The words of a scope: those of the reply, of the token and of its checks.
+CREATE, EDITOR = 'storage.objects.create', 'roles/storage.objectAdmin'
+EVERYBODY = f'principalSet://{PATH}/*'
+LONGEST = 'w' * 128
+puts({'kind': 'role', 'role': EDITOR, 'permissions': [GET, CREATE]})
+puts(policy((EDITOR, [EVERYBODY], None)))
+puts({'kind': 'scope', 'scope': 'read', 'permissions': [GET]})
+puts({'kind': 'scope', 'scope': 'write', 'permissions': [CREATE]})
+for word in [*SIXTEEN.split(' '), LONGEST]:
+    puts({'kind': 'scope', 'scope': word, 'permissions': []})
+
+
+def scoped(want, scope, *checks_of):
+    """An exchange for these words; then checks of the token, each a reply and a permission."""
+    exchange(want, SORTED, scope=scope)
+    for reply, permission in checks_of:
+        check(reply, latest(scope=scope), permission=permission)
+
+
+for scope in ('read', 'write', 'read write', 'read read', 'a read', 'read ' + EVERY, SIXTEEN, SIXTEEN[2:] + ' read', ' '.join(['read'] * 16),
+              LONGEST, ' '.join([LONGEST] * 16)):
+    scoped('issued', scope)
+    introspect('active', latest(scope=scope))
+for scope in (SIXTEEN + ' read', SIXTEEN + ' a', SIXTEEN + ' none', SIXTEEN + ' ', ' '.join(['read'] * 17), 'read  write', ' read', 'read ', ' ',
+              '  ', 'read\twrite', 'read\nwrite', 'read\u00a0write', 'read,write', 'none', 'read none', 'none read', 'a b c none', 'Read', 'rea',
+              'reads', '"read"', 'read\\', 'r\u00e9ad', 'read\u0000', LONGEST + 'w', LONGEST[1:], 'q', '*', '{}'):
+    scoped('E11', scope)
+    exchange('E11', SORTED, scope=scope, subject_token_type=ACCESS, audience=None)
+for tail, scope in (('read+write', 'read write'), ('read%20write', 'read write'), ('r%65ad', 'read')):
+    asked('issued', '&scope=' + tail)
+    introspect('active', latest(scope=scope))
+for tail in ('read++write', 'read%09write', 'read%2Bwrite', '+read', '%20', 'read%25'):
+    asked('E11', '&scope=' + tail)
+exchange('E25', subject(dict(FULL, may_act=actors(2, 'a' * 1024))), scope=' '.join([LONGEST] * 16))
+exchange('issued', subject(dict(FULL, may_act=actors(2, 'a' * 1024))), scope=' '.join([LONGEST] * 8))
+scoped('issued', 'read', ('allowed', GET), ('G7 0', CREATE))
+scoped('issued', 'write', ('G7 0', GET), ('allowed', CREATE))
+scoped('issued', 'a', ('G7 0', GET), ('G7 0', CREATE))
+scoped('issued', 'a write b', ('G7 0', GET), ('allowed', CREATE))
+scoped('issued', 'read write', ('allowed', GET), ('allowed', CREATE), ('G7 0', 'a.b.c'))
+READ_WRITE = latest(scope='read write')
+for permissions, want in [([], 'G7 0'), ([CREATE], 'G7 0'), ('*', 'allowed'), ([GET], 'allowed')]:
+    puts({'kind': 'scope', 'scope': 'read', 'permissions': permissions})
+    check(want, READ_WRITE)
+    check('allowed', READ_WRITE, permission=CREATE)
+scoped('E11', 'read q')
+puts({'kind': 'scope', 'scope': 'q', 'permissions': '*'})
+scoped('issued', 'read q', ('allowed', CREATE))
+
+# The options of an exchange: a JSON object, and the access boundary that it may have.
+PARENT, SIBLING, PUT_LATER = '//storage.googleapis.com/projects/_/buckets', BUCKET[:-1] + 'b', 'roles/put.later'
+exchange('issued', SORTED)
+STANDS = latest()
+
+
+def rule(*roles, at=BUCKET, text=None):
+    """A rule of an access boundary, its members in byte order."""
+    condition = {} if text is None else {'availabilityCondition': {'expression': text}}
+    return dict(condition, availablePermissions=['inRole:' + role for role in roles or (VIEWER,)], availableResource=at)
+
+
+def without(member):
+    return {name: value for name, value in rule().items() if name != member}
+
+
+def offers(names):
+    """A rule with these in place of its roles."""
+    return dict(rule(), availablePermissions=names)
+
+
+def where(condition):
+    """A rule with this in place of its condition."""
+    return dict({'availabilityCondition': condition}, **rule())
+
+
+def narrows(want, options, token=None, at=AT, **changes):
+    """An exchange of an access token with these options, if any."""
+    options = compact(options) if isinstance(options, dict) else options
+    exchange(want, token or STANDS, at, **dict({'subject_token_type': ACCESS, 'audience': None, 'options': options}, **changes))
+
+
+def bounds(want, *rules, **changes):
+    narrows(want, {'accessBoundary': {'accessBoundaryRules': list(rules)}}, **changes)
+
+
+def told(token):
+    """What a token's payload says."""
+    return json.loads(decoded(token.split('.')[1]))
+
+
+def narrower(parent, *rules, at=AT, scope=None, number=-1):
+    """The token of the last exchange, or of one before it, which narrowed a token by these rules, if any, and to these words or its own."""
+    links, said = sum(want == 'issued' for want, *_ in CASES), told(parent)
+    scope, wif = scope or said['scope'], said['wif']
+    wif = dict(wif, bounds=wif['bounds'] + [list(rules)] * bool(rules), scopes=wif['scopes'] + [scope])
+    return access(dict(said, exp=min(said['exp'], at + 3600), iat=at, jti=str(links + number), scope=scope, wif=wif))
+
+
+ONE = compact({'accessBoundary': {'accessBoundaryRules': [rule()]}})
+for options in ('[]', '"a"', 'null', '1', 'true', '{', '}', '{}x', '{}{}', 'x', ' ', '{"a"}', '{"a":1,}', "{'a':1}", '{"a":01}', '{"a":NaN}',
+                '{"a":1e400}', '{"a":' + '1' * 400 + '}', '{"a":"\\ud800"}', '{"a":"\t"}', '{"a":"\\x"}', '\ufeff{}', '[{}]', '[' + ONE + ']',
+                ONE[:-1], ONE + '}', '{"a":' + '[' * 127 + ']' * 127 + '}'):
+    asked('E12 Json', options=options)
+    narrows('E12 Json', options)
+for options in ('{}', ' { } ', '\n{"a":1}\t', '{"a":-0,"b":1.5e300,"c":18446744073709551616}', '{"a":' + '[' * 126 + ']' * 126 + '}',
+                '{"accessboundary":1}', '{"AccessBoundary":null}', '{"accessBoundaryRules":1}', '{"options":' + ONE + '}'):
+    asked('issued', options=options)
+    narrows('issued', options)
+for options in (ONE, ' ' + ONE + '\n', ONE[:-1] + ',"more":null}', '{"accessBoundary":1,' + ONE[1:], '{"\\u0061ccessBoundary' + ONE[16:],
+                ONE.replace('"accessBoundaryRules"', '"more":7,"accessBoundaryRules":7,"accessBoundaryRules"')):
+    asked('E13', options=options)
+    narrows('issued', options)
+narrows('E12 Shape 0', ONE[:-1] + ',"accessBoundary":{}}')
+for boundary in (None, 7, True, 'x', '', [], [rule()], {}, {'rules': [rule()]}, {'AccessBoundaryRules': [rule()]}):
+    asked('E12 Shape 0', options=compact({'accessBoundary': boundary}))
+    narrows('E12 Shape 0', {'accessBoundary': boundary})
+for rules in (None, 7, 'x', {}, {'0': rule()}, [], True):
+    narrows('E12 Shape 0', {'accessBoundary': {'accessBoundaryRules': rules}})
+bounds('issued', *[rule()] * 10)
+for rules in ([rule()] * 11, [None] * 11, [rule()] * 10 + [None], [rule('roles/none')] * 11, [rule()] * 100):
+    bounds('E12 TooMany 10', *rules)
+for number in (0, 1, 9):
+    front, back = [rule()] * number, [rule()] * (9 - number)
+    for one in (None, 7, 'x', True, [], [rule()], {}, without('availableResource'), rule(at=None)):
+        bounds(f'E12 Resource {number}', *front, one, *back)
+    for one in (without('availablePermissions'), offers(None), offers([])):
+        bounds(f'E12 Permission {number}', *front, one, *back)
+    for one in (where(None), rule(text='1 +'), rule(text='1')):
+        bounds(f'E12 Condition {number}', *front, one, *back)
+    bounds(f'E12 Role {number}', *front, rule('roles/none'), *back)
+    bounds('issued', *front, dict(rule(text='true'), more=None, availableresource=7), *back)
+
+# A rule of a boundary, member by member, at its edges.
+NO_RESOURCES = ('', '//', '/', BUCKET[1:], BUCKET[2:], BUCKET + '/', BUCKET + '//x', '//Storage.googleapis.com', BUCKET + '/"', BUCKET + '/a b',
+                BUCKET + '/\\', BUCKET + '/\u00e9', 'https:' + BUCKET, '//h/' + 'a' * 1021, 7, [BUCKET], {'name': BUCKET}, True)
+NO_ROLES = ('inRole:' + VIEWER, {}, {'inRole:' + VIEWER: 1}, 7, True, ['inRole:' + VIEWER] * 11, [VIEWER], ['inRole:'], ['inRole:roles/'], [''],
+            ['inrole:' + VIEWER], ['InRole:' + VIEWER], ['inRole: ' + VIEWER], [' inRole:' + VIEWER], ['inRole:' + VIEWER + ' '],
+            ['inRole:inRole:' + VIEWER], ['inRole:projects/p/roles/x'], ['inRole:roles/a-b'], ['inRole:roles/\u00e9'],
+            ['inRole:roles/' + 'r' * 65], [7], [None], [['inRole:' + VIEWER]], ['inRole:' + VIEWER, GET], ['inRole:' + VIEWER, None], [GET], ['*'])
+NO_CONDITIONS = (None, 7, True, 'true', [], ['true'], {}, {'expression': None}, {'expression': 7}, {'expression': True}, {'expression': ['true']},
+                 {'expression': {'expression': 'true'}}, {'Expression': 'true'}, {'title': 'x'})
+NO_CONDITION_TEXT = (*NO_TEXT, '1', '"true"', 'null', 'resource', 'resource.name', 'request.time', 'resource.name == 1', 'request.time < 5',
+                     'assertion.sub == "a"', 'google.subject == "a"', 'attribute.a == "a"', 'resource == request', '[true]', 'true ? 1 : 2',
+                     'true' + ' ' * 4093, '!' * 512 + 'true', '(' * 33 + 'true' + ')' * 33, '[1].all(x, [x].all(y, [y].all(z, z == 1)))',
+                     'api.getAttribute("a", []) == []', 'resource.type.x')
+for resource in NO_RESOURCES:
+    bounds('E12 Resource 0', rule(at=resource))
+for resource in ('//h', '//h/' + 'a' * 1020, BUCKET + '/objects/{x}*', '//iam.googleapis.com/projects/-/serviceAccounts/' + BUILDER, '//0.-/~'):
+    bounds('issued', rule(at=resource))
+for names in NO_ROLES:
+    bounds('E12 Permission 0', offers(names))
+bounds('issued', rule(*[VIEWER] * 10))
+bounds('issued', rule(VIEWER, EDITOR, CREATOR, VIEWER))
+bounds('E12 Role 0', rule('roles/' + 'r' * 64))
+for condition in NO_CONDITIONS:
+    bounds('E12 Condition 0', where(condition))
+bounds('issued', where({'title': 'x', 'expression': 'true', 'more': None}))
+for text in NO_CONDITION_TEXT:
+    bounds('E12 Condition 0', rule(text=text))
+for text in ('true', 'false', '1 / 0 == 1', 'resource.type == "a"', 'request.date < request.time', 'resource.name.startsWith("projects/_/")',
+             'resource.service == "storage.googleapis.com" && request.time < timestamp("2023-11-14T22:15:00Z")', 'true' + ' ' * 4092,
+             '!' * 511 + 'true', '(' * 32 + 'true' + ')' * 32, '[1].all(x, [x].all(y, y == 1))', 'true // a', "resource.name == r'\\'",
+             '"\u00e9\U0001f600" in resource'):
+    bounds('issued', rule(text=text))
+
+# Several at fault in one boundary: its count, the first rule with a fault of its form, its members in their order, and then the roles.
+bounds('E12 Resource 0', dict(rule(text='1 +', at='x'), availablePermissions=[]))
+bounds('E12 Resource 0', rule(text='1 +', at='x'))
+bounds('E12 Permission 0', dict(rule(text='1 +'), availablePermissions=[]))
+for first, one in [('Resource', without('availableResource')), ('Permission', without('availablePermissions')), ('Condition', rule(text='1 +'))]:
+    for other in (without('availableResource'), without('availablePermissions'), rule(text='1 +'), None, rule('roles/none')):
+        bounds(f'E12 {first} 0', one, other)
+        bounds(f'E12 {first} 1', rule(), one, other)
+    bounds(f'E12 {first} 1', rule('roles/none'), one)
+    bounds(f'E12 {first} 2', rule('roles/none'), rule(), one)
+for roles in (['roles/none'], ['roles/none', VIEWER], [VIEWER, 'roles/none'], [VIEWER] * 9 + ['roles/none']):
+    bounds('E12 Role 0', rule(*roles), rule('roles/none'))
+    bounds('E12 Role 1', rule(VIEWER, EDITOR), rule(*roles), rule('roles/none'))
+bounds('E12 Role 1', rule(), rule(PUT_LATER))
+puts({'kind': 'role', 'role': PUT_LATER, 'permissions': []})
+bounds('issued', rule(), rule(PUT_LATER))
+bounds('E12 Role 0', rule('roles/Put.Later'))
+
+# A boundary, an actor, and a subject token from outside: two of them are too many. An actor isn't built yet.
+ACTOR = {'actor_token': STANDS, 'actor_token_type': ACCESS}
+for kind in (JWT, ID_TOKEN):
+    asked('E13', subject_token_type=kind, options=ONE)
+    asked('E13', subject_token_type=kind, **ACTOR)
+    asked('E13', subject_token_type=kind, options=ONE, **ACTOR)
+    asked('E13', subject_token_type=kind, options='{}', **ACTOR)
+narrows('E13', ONE, **ACTOR)
+narrows('Z1', '{}', **ACTOR)
+narrows('Z1', '', **ACTOR)
+narrows('Z1', '', audience=NAME, **ACTOR)
+narrows('Z1', '', audience=[NAME, 'x'], **ACTOR)
+narrows('Z1', '', actor_token='a.b', actor_token_type=ACCESS)
+narrows('Z1', '', scope='read', **ACTOR)
+narrows('issued', ONE, actor_token='', actor_token_type='')
+narrows('issued', ONE, requested_token_type=ACCESS, scope='read write')
+
+# Two at fault: the first in the order of the rules counts.
+UNKNOWN_ROLE = compact({'accessBoundary': {'accessBoundaryRules': [rule('roles/none')]}})
+IN_ORDER = [
+    ('E1', {'colour': '\ufffd'}), ('E2', {'requested_token_type': [ACCESS, ACCESS]}), ('E3', {'grant_type': None}), ('E4', {'grant_type': 'x'}),
+    ('E5', {'subject_token': None}), ('E6', {'subject_token_type': None}), ('E7', {'requested_token_type': JWT}),
+    ('E8', {'actor_token_type': JWT}), ('E9', {'actor_token': 'x', 'actor_token_type': JWT}), ('E10', {'resource': 'x'}),
+    ('E11', {'scope': 'none'}), ('E12 Json', {'options': '{'}), ('E12 Shape 0', {'options': '{"accessBoundary":[]}'}),
+    ('E12 Role 0', {'options': UNKNOWN_ROLE}), ('E13', ACTOR), ('E13', {'options': ONE}), ('E14', {'audience': NAME + 'x'}),
+    ('E14', {'audience': None}), ('E16 Parts', {'subject_token': 'x'}),
+]
+for number, (first, one) in enumerate(IN_ORDER):
+    for _, other in IN_ORDER[number + 1:]:
+        if not one.keys() & other.keys():
+            asked(first, **one, **other)
+for name in ('scope', 'options', 'actor_token', 'actor_token_type', 'subject_token_type', 'grant_type'):
+    asked('E2', **{name: ['x', 'x']})
+asked('E2', requested_token_type=[JWT, JWT], grant_type=None)
+asked('E8', actor_token_type='x', resource='x', scope='none', options='{')
+narrows('E12 Role 0', UNKNOWN_ROLE, **ACTOR)
+narrows('E13', ONE, audience=NAME, **ACTOR)
+narrows('E11', ONE, scope='none', **ACTOR)
+narrows('E10', ONE, resource='x', **ACTOR)
+add('E1', '/v1/token', '-', AT, '%FF&' + form([(name, 'x') for name in SINGLE] * 2))
+OTHERS = [(name, 'x') for name in SINGLE if name not in ('grant_type', 'subject_token')]
+add('E2', '/v1/token', '-', AT, form(OTHERS * 2))
+add('E3', '/v1/token', '-', AT, form(OTHERS))
+add('E4', '/v1/token', '-', AT, form([('grant_type', 'x'), *OTHERS]))
+add('E5', '/v1/token', '-', AT, form([('grant_type', EXCHANGE), *OTHERS]))
+add('E6', '/v1/token', '-', AT, form([('grant_type', EXCHANGE), ('subject_token', 'x'), *OTHERS]))
+
+# Boundaries that a token carries: each has to allow what is asked, by one of its rules.
+puts(policy((EDITOR, [EVERYBODY], None), at='//storage.googleapis.com'))
+puts({'kind': 'role', 'role': VIEWER, 'permissions': [GET]})
+
+
+def bounded(want, *lists, at=AT + 100, permission=GET, resource=BUCKET, **wif):
+    """A check of a token with these boundaries, each a list of rules."""
+    check(want, access(wif=dict({'bounds': list(lists)}, **wif)), at, permission, resource)
+
+
+AT_A, AT_B, AT_PARENT = [rule()], [rule(at=SIBLING)], [rule(at=PARENT)]
+for want, resource in [('allowed', BUCKET), ('allowed', BUCKET + '/objects/x'), ('allowed', BUCKET + '/objects/a/b'), ('G8 0', BUCKET + 'b'),
+                       ('G8 0', BUCKET + '.b'), ('G8 0', SIBLING), ('G8 0', PARENT), ('G8 0', BUCKET[:-2]), ('G8 0', '//storage.googleapis.com'),
+                       ('G8 0', BUCKET.replace('//', '//x.')), ('G8 0', BUCKET.replace('/a', '/A'))]:
+    bounded(want, AT_A, resource=resource)
+for want, resource, *lists in [
+    ('allowed', BUCKET, AT_A, AT_A), ('G8 1', BUCKET, AT_A, AT_B), ('G8 0', SIBLING, AT_A, AT_B), ('G8 0', PARENT, AT_A, AT_B),
+    ('allowed', BUCKET, AT_PARENT, AT_A), ('G8 1', SIBLING, AT_PARENT, AT_A), ('G8 1', SIBLING, AT_PARENT, AT_A, AT_B),
+    ('G8 2', BUCKET, AT_PARENT, AT_A, AT_B), ('G8 1', BUCKET, AT_A, AT_B, AT_PARENT), ('allowed', BUCKET, AT_A + AT_B),
+    ('allowed', SIBLING, AT_A + AT_B), ('allowed', BUCKET, AT_B + AT_A, AT_A), ('G8 1', SIBLING, AT_B + AT_A, AT_A),
+    ('allowed', BUCKET, *[AT_A] * 20), ('G8 19', BUCKET, *[AT_A] * 19, AT_B), ('G8 0', SIBLING, *[AT_A] * 19, AT_B),
+    ('allowed', BUCKET, AT_B * 9 + AT_A), ('G8 0', BUCKET, AT_B * 10), ('allowed', BUCKET + '/objects/x/y', [rule(at=BUCKET + '/objects/x')]),
+    ('G8 0', BUCKET + '/objects/xy', [rule(at=BUCKET + '/objects/x')]), ('allowed', BUCKET, [rule(at='//storage.googleapis.com')]),
+    ('G8 0', BUCKET, [rule(at='//storage')]),
+]:
+    bounded(want, *lists, resource=resource)
+
+# G8 stands behind G7 and before G9.
+bounded('G7 0', AT_B, scopes=['a', EVERY])
+bounded('G7 1', AT_B, scopes=[EVERY, 'read', EVERY], permission=CREATE)
+bounded('G6 0', AT_B, accounts=[OTHER], scopes=['a', EVERY])
+bounded('G5 0', AT_B, pools=['1234/no-pool'])
+bounded('G4', AT_B, at=AT + 900)
+bounded('G8 0', AT_B, permission='a.b.c')
+bounded('G9', [rule(at='//iam.googleapis.com')], resource='//iam.googleapis.com/x')
+bounded('G8 0', AT_A, resource='//iam.googleapis.com/x')
+introspect('inactive', access(wif={'bounds': [AT_A]}))
+
+# The roles of a rule: one of them holds the permission as it was put last.
+for want, permission, *roles in [
+    ('allowed', GET, VIEWER), ('G8 0', CREATE, VIEWER), ('allowed', CREATE, EDITOR), ('allowed', CREATE, VIEWER, EDITOR),
+    ('allowed', CREATE, EDITOR, VIEWER), ('G8 0', GET, CREATOR), ('allowed', GET, *[CREATOR] * 9, EDITOR), ('G8 0', GET, PUT_LATER),
+    ('G8 0', GET, 'roles/none'), ('allowed', GET, 'roles/none', VIEWER), ('G8 0', 'a.b.c', VIEWER, EDITOR), ('G8 0', GET[:-1], VIEWER),
+    ('G8 0', GET + '1', VIEWER), ('G8 0', GET.upper(), VIEWER),
+]:
+    bounded(want, [rule(*roles)], permission=permission)
+bounded('G8 0', [rule(CREATOR), rule(VIEWER, at=SIBLING)])
+bounded('allowed', [rule(CREATOR), rule(VIEWER)])
+for permissions, of_get, of_create in [([], 'G8 0', 'G8 0'), ([CREATE], 'G8 0', 'allowed'), ([CREATE, GET], 'allowed', 'allowed'),
+                                       (['a.b.c'], 'G8 0', 'G8 0'), ([GET], 'allowed', 'G8 0')]:
+    puts({'kind': 'role', 'role': VIEWER, 'permissions': permissions})
+    bounded(of_get, AT_A)
+    bounded(of_create, AT_A, permission=CREATE)
+    bounded(of_get.replace('0', '1'), [rule(EDITOR)], AT_A)
+for permissions, want in [([GET], 'allowed'), ([], 'G8 0')]:
+    puts({'kind': 'role', 'role': PUT_LATER, 'permissions': permissions})
+    bounded(want, [rule(PUT_LATER)])
+bounded('G8 0', [rule('roles/put.at.last')])
+puts({'kind': 'role', 'role': 'roles/put.at.last', 'permissions': [GET]})
+bounded('allowed', [rule('roles/put.at.last')])
+
+# The condition of a rule: true, false, or an error, which doesn't hold.
+for want, text in [
+    ('allowed', 'true'), ('G8 0', 'false'), ('G8 0', '1 / 0 == 1'), ('allowed', '1 / 0 == 1 || true'), ('G8 0', '1 / 0 == 1 && true'),
+    ('G8 0', '!(1 / 0 == 1)'), ('G8 0', 'resource.type == "a"'), ('G8 0', 'resource.type != "a"'), ('G8 0', 'has(resource.type)'),
+    ('allowed', '!has(resource.type)'), ('allowed', 'resource.service == "storage.googleapis.com"'),
+    ('allowed', 'resource.name == "projects/_/buckets/a"'), ('G8 0', 'resource.name == "projects/_/buckets/b"'),
+    ('G8 0', f'resource.name == "{BUCKET}"'), ('allowed', 'resource.name.endsWith("/a")'),
+    ('allowed', 'resource.name.extract("buckets/{b}") == "a"'), ('G8 0', 'resource.name.split("/")[4] == "a"'), ('allowed', 'size(resource) == 2'),
+    ('allowed', 'request.time == timestamp("2023-11-14T22:15:00Z")'), ('G8 0', 'request.time < timestamp("2023-11-14T22:15:00Z")'),
+    ('G8 0', 'request.date == request.time'), ('G8 0', 'request.time + duration("87600000h") > request.time'), ('allowed', ' true // a "b"'),
+    ('allowed', "resource.name == 'projects/_/buckets/a'"), ('allowed', '"\\u00e9" == "\u00e9"'), ('allowed', '"\\t\\n\\"" != "\U0001f600"'),
+    ('allowed', 'true\n&&\ttrue'), ('allowed', '[1].all(x, [x].all(y, y == 1))'), ('G8 0', '9223372036854775807 + 1 > 0'),
+]:
+    bounded(want, [rule(text=text)])
+UNTIL = [rule(text='request.time < timestamp("2023-11-14T22:15:00Z")')]
+for want, at in [('allowed', 0), ('allowed', AT), ('allowed', AT + 99), ('G8 0', AT + 100), ('G8 0', AT + 899), ('G4', AT + 900)]:
+    bounded(want, UNTIL, at=at)
+LOGS = [rule(text='resource.name.startsWith("projects/_/buckets/a/objects/logs/")')]
+for want, path in [('allowed', '/objects/logs/x'), ('G8 0', '/objects/logs'), ('G8 0', '/objects/x'), ('G8 0', '')]:
+    bounded(want, LOGS, resource=BUCKET + path)
+for want, *rules in [
+    ('allowed', rule(text='1 / 0 == 1'), rule()), ('allowed', rule(text='false'), rule(text='true')), ('allowed', rule(), rule(text='1 / 0 == 1')),
+    ('G8 0', rule(text='false'), rule(text='1 / 0 == 1')), ('G8 0', rule(CREATOR, text='true'), rule(text='false')),
+    ('G8 0', rule(at=SIBLING, text='true'), rule(text='false'), rule(CREATOR)), ('allowed', *[rule(text='false')] * 9, rule()),
+]:
+    bounded(want, rules)
+bounded('G8 1', UNTIL, LOGS, at=AT)
+bounded('G8 0', UNTIL, LOGS)
+bounded('allowed', UNTIL, LOGS, at=AT, resource=BUCKET + '/objects/logs/x')
+bounded('G8 1', [rule(text='true')], [rule(text='1 / 0 == 1')])
+bounded('G8 0', [rule(text='1 / 0 == 1')], [rule(text='true')])
+
+# Boundaries that the service doesn't write: such a payload is none of its own.
+for lists in ([[]], [AT_A, []], [AT_A * 11], [AT_A, AT_B * 11], rule(), [rule()], None, 'x', 7, [None], ['x'], [7], [[None]], [[[]]], [{}], [[{}]],
+              [[7]], [[rule(), None]], [{'accessBoundaryRules': AT_A}], {'accessBoundaryRules': AT_A}):
+    check('G3', access(wif={'bounds': lists}))
+bounded('allowed', AT_A * 10)
+bounded('allowed', [rule(*[VIEWER] * 10)])
+bounded('allowed', [rule(*['roles/' + 'r' * 64] * 9, VIEWER)] * 10)
+for one in (without('availableResource'), without('availablePermissions'), dict(rule(), more=1), dict({'a': None}, **rule()), rule(at=None),
+            dict(reversed(rule().items())), dict(rule(), availabilityCondition={'expression': 'true'}), dict(reversed(rule(text='true').items())),
+            offers(None), offers([])):
+    bounded('G3', [one])
+    bounded('G3', AT_B, [rule(), one])
+for resource in NO_RESOURCES:
+    bounded('G3', [rule(at=resource)])
+for names in NO_ROLES:
+    bounded('G3', [offers(names)])
+for condition in (*NO_CONDITIONS, {'expression': 'true', 'title': 'x'}, {'description': 'x', 'expression': 'true'}):
+    bounded('G3', [where(condition)])
+for text in NO_CONDITION_TEXT:
+    bounded('G3', [rule(text=text)])
+bounded('G8 0', [rule(at='//h/' + 'a' * 1020)])
+bounded('G8 0', [rule('roles/' + 'r' * 64)])
+for text in ('true' + ' ' * 4092, 'true' + '\t' * 4092, '!!' * 255 + 'true', '(' * 32 + 'true' + ')' * 32):
+    bounded('allowed', [rule(text=text)])
+CONDITIONED = compact(facts({'bounds': [AT_A, [rule(text='resource.name == "projects/_/buckets/a"')]]}))
+check('allowed', access(CONDITIONED))
+check('G2', access(CONDITIONED, key=OUTSIDE))
+for want, old, new in [
+    *[('G3', old, old.replace(part, part + ' ')) for old, part in [
+        ('bounds":[', '['), ('bounds":[[', '[['), ('bounds":[[{', '{'), ('"availablePermissions":', ':'), ('inRole:', ':'), ('{"expression"', '{'),
+        ('""}', '""'), ('}]],"pools', '}]'), ('}],[{', ',')]],
+    ('G3', '}],[{', '}],[],[{'), ('G3', 'bounds":[[', 'bounds":[[],['), ('G3', '}]],"pools', '},{}]],"pools'),
+    ('G3', '}]],"pools', '},null]],"pools'), ('G3', '}]],"pools', '},]],"pools'), ('G3', '"bounds"', '"bounds":[],"bounds"'),
+    ('G3', '{"availablePermissions"', '{"availablePermissions":[],"availablePermissions"'),
+    ('G3', '"availableResource"', '"availableResource":"//a","availableResource"'), ('G3', '"availableResource"', '"availableresource"'),
+    ('G3', '"availabilityCondition":', '"a":1,"availabilityCondition":'),
+    ('G3', '"availabilityCondition":', '"availabilityCondition":null,"availabilityCondition":'),
+    ('G3', '"expression":', '"expression":"false","expression":'), ('G3', '"expression":', '"Expression":'),
+    ('G3', '{"expression"', '{"description":"x","expression"'), ('G3', '""}', '"","title":"x"}'),
+    ('G3', '"availableResource":"//', '"availableResource":"\\/\\/'), ('G3', 'roles/', 'roles\\/'), ('G3', 'inRole', '\\u0069nRole'),
+    ('G3', '\\"projects', '\\u0022projects'), ('G3', ' == ', '\\u0020== '),
+    ('allowed', ' == ', '=='), ('allowed', ' == ', '  ==  '), ('G8 1', ' == ', ' != '), ('G8 0', 'buckets/a"', 'buckets/b"'),
+    ('G8 0', 'inRole:' + VIEWER, 'inRole:' + CREATOR),
+]:
+    if old not in CONDITIONED:
+        raise ValueError(old)
+    check(want, access(CONDITIONED.replace(old, new, 1)))
+
+# Narrowed tokens: by a boundary on each of two buckets, one after the other. Each says what its link carries, and that of its parent before.
+puts(policy(at='//storage.googleapis.com'))
+puts(policy((VIEWER, [REPOSITORY, 'serviceAccount:' + BUILDER], None)))
+exchange('issued', subject(FULL))
+ROOT = latest()
+bounds('issued', *AT_A, token=ROOT, at=AT + 100)
+ON_A = narrower(ROOT, *AT_A, at=AT + 100)
+bounds('issued', *AT_B, token=ON_A, at=AT + 100)
+ON_BOTH = narrower(ON_A, *AT_B, at=AT + 100)
+for token, of_a, of_b in [(ROOT, 'allowed', 'G9'), (ON_A, 'allowed', 'G8 0'), (ON_BOTH, 'G8 1', 'G8 0')]:
+    check(of_a, token)
+    check(of_a, token, resource=BUCKET + '/objects/x')
+    check(of_b, token, resource=SIBLING)
+    check('G4', token, AT + 900)
+    introspect('active', token, AT + 899)
+    introspect('inactive', token, AT + 900)
+narrows('E11', None, ON_A, AT + 100, scope='none')
+narrows('issued', None, ON_A, AT + 100)
+check('allowed', narrower(ON_A, at=AT + 100))
+bounds('issued', *AT_A, *AT_B, token=ROOT)
+check('allowed', narrower(ROOT, *AT_A, *AT_B))
+check('G9', narrower(ROOT, *AT_A, *AT_B), resource=SIBLING)
+bounds('issued', *AT_B, token=ROOT)
+check('G8 0', narrower(ROOT, *AT_B))
+check('G9', narrower(ROOT, *AT_B), resource=SIBLING)
+
+# A chain has eight links at most.
+exchange('issued', subject(FULL))
+CHAIN = [latest()]
+for number in range(1, 8):
+    narrows('issued', None, CHAIN[-1], AT + number)
+    CHAIN.append(narrower(CHAIN[-1], at=AT + number))
+    introspect('active', CHAIN[-1], AT + 899)
+    check('allowed', CHAIN[-1])
+    check('G9', CHAIN[-1], permission=CREATE)
+for changes in ({}, {'scope': 'read'}, {'options': ONE}, {'options': '{}'}, {'requested_token_type': ACCESS}):
+    narrows('E24', changes.pop('options', None), CHAIN[-1], **changes)
+narrows('issued', None, CHAIN[-2])
+narrows('E24', None, narrower(CHAIN[-2]))
+narrows('issued', None, CHAIN[0], scope='read')
+check('allowed', narrower(CHAIN[0], scope='read'))
+narrows('issued', None, narrower(CHAIN[0], scope='read'))
+
+# A chain of eight with a boundary at each link but the first, each below the one before, and one that has none of them.
+PATHS = [BUCKET + '/a' * count for count in range(7)]
+DEEP = [ROOT]
+for path in PATHS:
+    bounds('issued', rule(at=path), token=DEEP[-1], at=AT + 50)
+    DEEP.append(narrower(DEEP[-1], rule(at=path), at=AT + 50))
+for number, path in enumerate(PATHS):
+    check('allowed' if number == 6 else f'G8 {number + 1}', DEEP[-1], resource=path)
+    check('allowed', DEEP[number + 1], resource=path)
+check('G8 0', DEEP[-1], resource=PARENT)
+check('G8 1', DEEP[-1], resource=BUCKET + '/b/a/a/a/a/a')
+bounds('E24', rule(at=PATHS[-1]), token=DEEP[-1], at=AT + 50)
+narrows('issued', None, ROOT)
+BETWEEN = narrower(ROOT)
+bounds('issued', *AT_A, token=BETWEEN)
+narrows('issued', None, narrower(BETWEEN, *AT_A))
+LAST = narrower(narrower(BETWEEN, *AT_A, number=-2))
+bounds('issued', *AT_B, token=LAST)
+check('G8 1', narrower(LAST, *AT_B))
+check('allowed', LAST)
+
+# The words of a narrowed token: those of the scope, or else the subject's own; each link's have to allow.
+puts(policy((EDITOR, [REPOSITORY], None)))
+exchange('issued', subject(FULL), scope='read write')
+WORDED = latest(scope='read write')
+for scope, of_get, of_create in [(None, 'allowed', 'allowed'), ('read', 'allowed', 'G7 1'), ('write', 'G7 1', 'allowed'),
+                                 ('a', 'G7 1', 'G7 1'), (EVERY, 'allowed', 'allowed'), ('a read', 'allowed', 'G7 1'),
+                                 (SIXTEEN, 'G7 1', 'G7 1'), ('q', 'allowed', 'allowed')]:
+    narrows('issued', None, WORDED, scope=scope)
+    token = narrower(WORDED, scope=scope)
+    introspect('active', token)
+    check(of_get, token)
+    check(of_create, token, permission=CREATE)
+    check('G7 0', token, permission='a.b.c')
+narrows('issued', None, WORDED, scope='')
+narrows('issued', None, narrower(WORDED), tail='&scope=')
+introspect('active', narrower(narrower(WORDED, number=-2)))
+narrows('issued', None, WORDED, scope='read')
+READER = narrower(WORDED, scope='read')
+narrows('issued', None, READER)
+check('G7 1', narrower(READER), permission=CREATE)
+narrows('issued', None, READER, scope='write')
+WRITER = narrower(READER, scope='write')
+check('G7 2', WRITER)
+check('G7 1', WRITER, permission=CREATE)
+bounds('issued', *AT_B, token=WRITER, scope='read write')
+check('G7 2', narrower(WRITER, *AT_B, scope='read write'))
+for permissions, want in [([], 'G7 0'), ('*', 'G7 2'), ([GET], 'G7 2')]:
+    puts({'kind': 'scope', 'scope': 'read', 'permissions': permissions})
+    check(want, WRITER)
+for permissions, want in [([GET, CREATE], 'allowed'), ('*', 'allowed'), ([], 'G7 2'), ([CREATE], 'G7 2')]:
+    puts({'kind': 'scope', 'scope': 'write', 'permissions': permissions})
+    check(want, WRITER)
+for scope in (SIXTEEN + ' read', 'read  write', 'read ', 'none', 'read none'):
+    narrows('E11', None, WORDED, scope=scope)
+narrows('issued', None, ROOT, scope=' '.join([LONGEST] * 16))
+narrows('E25', None, narrower(ROOT, scope=' '.join([LONGEST] * 16)))
+
+# The life of a narrowed token: to its parent's end, and an hour at most.
+narrows('issued', None, ROOT, AT + 899)
+introspect('active', narrower(ROOT, at=AT + 899), AT + 899)
+introspect('inactive', narrower(ROOT, at=AT + 899), AT + 900)
+narrows('E21', None, ROOT, AT + 900)
+narrows('E21', None, ROOT, 200000000000)
+narrows('E21', None, ON_BOTH, AT + 900)
+exchange('issued', subject(dict(FULL, exp=AT + 7200)))
+HOUR = latest(exp=AT + 3600)
+narrows('issued', None, HOUR, AT + 3599)
+introspect('active', narrower(HOUR, at=AT + 3599), AT + 3599)
+narrows('issued', None, HOUR, AT)
+introspect('active', narrower(HOUR, at=AT), AT + 3599)
+narrows('issued', None, HOUR, AT - 600)
+EARLY = narrower(HOUR, at=AT - 600)
+introspect('active', EARLY, AT + 2999)
+introspect('inactive', EARLY, AT + 3000)
+introspect('active', HOUR, AT + 3000)
+check('allowed', EARLY, AT + 2999)
+check('G4', EARLY, AT + 3000)
+narrows('E21', None, EARLY, AT + 3000)
+narrows('issued', None, EARLY, AT + 2999)
+introspect('active', narrower(EARLY, at=AT + 2999), AT + 2999)
+introspect('inactive', narrower(EARLY, at=AT + 2999), AT + 3000)
+narrows('issued', None, HOUR, 0)
+introspect('active', narrower(HOUR, at=0), 3599)
+check('G4', narrower(HOUR, at=0), 3600)
+
+# A pool that is disabled ends each link above its own, and a provider none.
+puts({'kind': 'pool', 'project': '1234', 'pool': 'ci-pool', 'disabled': True})
+for token in (ROOT, ON_A, ON_BOTH, CHAIN[-1]):
+    check('G5 0', token)
+    introspect('inactive', token, AT + 100)
+    narrows('E21', None, token, AT + 100)
+puts({'kind': 'pool', 'project': '1234', 'pool': 'ci-pool'})
+for token, want in [(ROOT, 'allowed'), (ON_A, 'allowed'), (ON_BOTH, 'G8 1')]:
+    check(want, token)
+    introspect('active', token, AT + 100)
+puts(dict(GITHUB, disabled=True))
+introspect('active', ON_A, AT + 100)
+narrows('issued', None, ON_A, AT + 100)
+check('allowed', narrower(ON_A, at=AT + 100))
+puts(dict(GITHUB, mapping=SUB))
+bounds('issued', *AT_A, token=ROOT, at=AT + 100)
+check('allowed', narrower(ROOT, *AT_A, at=AT + 100))
+puts(GITHUB)
+
+# The subject token has to be the very text that was issued, and no audience is named.
+for token in ('x', 'a.b', 'a.b.c', SORTED, subject(FULL), ROOT[:-1], ROOT + '.', '.' + ROOT, ' ' + ROOT, ROOT + ' ', ROOT[:-1] + 'A', 'Bearer ' + ROOT,
+              signed(OWN, told(ROOT), '{"typ":"JWT","alg":"HS256"}'), signed(OUTSIDE, told(ROOT)), signed(OWN, dict(told(ROOT), jti='4294967295')),
+              signed(OWN, dict(told(ROOT), iat=AT + 1)), narrower(ROOT, *AT_A, number=0), narrower(ON_A, *AT_A), GATE):
+    narrows('E21', None, token)
+    bounds('E21', *AT_A, token=token)
+for audience in (NAME, NAME + 'x', 'x', ' ', [NAME, NAME], ['', 'x']):
+    narrows('E14', None, ROOT, audience=audience)
+    narrows('E14', None, 'x', audience=audience)
+narrows('issued', None, ROOT, audience='')
+narrows('issued', None, ROOT, audience=['', ''])
+narrows('issued', None, ROOT, tail='&audience&colour=red')
+narrows('issued', '', ROOT, requested_token_type=ACCESS, actor_token='', actor_token_type='', resource='')
+introspect('active', narrower(ROOT))
+for first, one in IN_ORDER[:14]:
+    options = one.get('options')
+    for changes in ({'audience': NAME}, {'subject_token': 'x'}, {'audience': 'x', 'subject_token': 'x'}):
+        if not changes.keys() & one.keys():
+            narrows(first, options, **{name: one[name] for name in one if name != 'options'}, **changes)
+for changes in ({'audience': NAME}, {'subject_token': 'x'}, {'audience': 'x', 'subject_token': 'x'}):
+    narrows('E13', ONE, **ACTOR, **changes)
+    narrows('Z1', None, **ACTOR, **changes)
+narrows('E14', None, CHAIN[-1], audience=NAME)
+narrows('E21', None, CHAIN[-1], AT + 900)
+narrows('E11', None, CHAIN[-1], AT + 900, scope='none')
+narrows('E12 Role 0', UNKNOWN_ROLE, CHAIN[-1], AT + 900)
+
+# The longest token: 8,192 bytes. Too many links are told before too many bytes, and a subject token that isn't live before both.
+FILL = rule(text='true' + ' ' * 4092)
+bounds('issued', FILL, token=ROOT)
+ROOM = 6083 - len(compact(told(narrower(ROOT, FILL, rule(text='true')))))
+for want, more in [('issued', 0), ('E25', 1), ('issued', -1), ('E25', 2)]:
+    bounds(want, FILL, rule(text='true' + ' ' * (ROOM + more)), token=ROOT)
+    if want == 'issued':
+        token = narrower(ROOT, FILL, rule(text='true' + ' ' * (ROOM + more)))
+        introspect('active', token)
+        check('allowed', token)
+        narrows('E25', None, token)
+bounds('E25', FILL, FILL, token=ROOT)
+bounds('E25', FILL, FILL, token=CHAIN[-2])
+bounds('E24', FILL, FILL, token=CHAIN[-1])
+bounds('E21', FILL, FILL, token=CHAIN[-1], at=AT + 900)
+bounds('E21', FILL, FILL, token='x')
+bounds('E12 Role 1', FILL, rule('roles/none', text='true' + ' ' * 4092), token=CHAIN[-1])
+
+# What a boundary says beside its rules' own members isn't carried; an expression is carried as it was given.
+for given, carried in [
+    (dict(rule(), title='x', description=None), rule()), (dict(reversed(rule().items())), rule()),
+    (where({'title': 'x', 'expression': 'true', 'description': 'y'}), rule(text='true')),
+    (dict(reversed(rule(text='true').items())), rule(text='true')), (rule(VIEWER, VIEWER, EDITOR), rule(VIEWER, VIEWER, EDITOR)),
+    *[(rule(text=text), rule(text=text)) for text in (
+        ' true', 'true // "a"\n', '(true)', "'a' == \"\\u0061\"", 'true\t&&\r\ntrue', '"\u00e9\U0001f600" != \'\\\\\'', '"\u007f\u0001" != ""',
+        '"</" != r"\\/"')],
+]:
+    bounds('issued', given, token=ROOT)
+    introspect('active', narrower(ROOT, carried))
+    check('allowed', narrower(ROOT, carried))
+ESCAPED = compact(rule()).replace('//storage', '\\/\\/storag\\u0065')
+narrows('issued', '{"accessBoundary":{"more":1,"accessBoundaryRules":[' + ESCAPED + ']},"b":2}', ROOT)
+introspect('active', narrower(ROOT, rule()))
+for options in ('{}', '{"accessboundary":1}', ''):
+    narrows('issued', options, ON_A)
+    introspect('active', narrower(ON_A))
+
+# Who may act is carried on, and two tokens of one subject at one moment are two links.
+exchange('issued', subject(dict(FULL, may_act=actors(3, 'a'))))
+MAY_ACT = latest(may_act=actors(3, 'a'))
+bounds('issued', *AT_A, token=MAY_ACT)
+introspect('active', narrower(MAY_ACT, *AT_A))
+narrows('issued', None, narrower(MAY_ACT, *AT_A))
+introspect('active', narrower(narrower(MAY_ACT, *AT_A, number=-2)))
+for _ in range(2):
+    bounds('issued', *AT_A, token=ROOT)
+introspect('active', narrower(ROOT, *AT_A))
+introspect('active', narrower(ROOT, *AT_A, number=-2))
+introspect('inactive', narrower(ROOT, *AT_A, number=0))
+
+# A role that is put again changes what the boundaries of tokens allow, and so does a condition with the time.
+bounds('issued', rule(VIEWER), token=ROOT)
+VIEWED = narrower(ROOT, rule(VIEWER))
+for permissions, of_get, of_create in [([], 'G8 0', 'G8 0'), ([CREATE], 'G8 0', 'allowed'), ([GET, CREATE], 'allowed', 'allowed'),
+                                       ([GET], 'allowed', 'G8 0')]:
+    puts({'kind': 'role', 'role': VIEWER, 'permissions': permissions})
+    check(of_get, VIEWED)
+    check(of_create, VIEWED, permission=CREATE)
+bounds('issued', *UNTIL, token=ROOT)
+UNTIL_THEN = narrower(ROOT, *UNTIL)
+for want, at in [('allowed', AT), ('allowed', AT + 99), ('G8 0', AT + 100), ('G4', AT + 900)]:
+    check(want, UNTIL_THEN, at)
+bounds('issued', *LOGS, token=UNTIL_THEN)
+check('allowed', narrower(UNTIL_THEN, *LOGS), AT + 99, resource=BUCKET + '/objects/logs/x')
+check('G8 1', narrower(UNTIL_THEN, *LOGS), AT + 99)
+check('G8 0', narrower(UNTIL_THEN, *LOGS))
+bounds('issued', rule(text='1 / 0 == 1'), token=ROOT)
+check('G8 0', narrower(ROOT, rule(text='1 / 0 == 1')))
+
 # A thousand roles and no more, and a thousand pools with that of the start; a name that is there is put again.
 def fills(command, names):
     for name in names:
         puts(dict(command, **name), at=0)
 
 
-fills({'kind': 'role', 'permissions': []}, [{'role': f'roles/r{number}'} for number in range(2, 1000)])
+fills({'kind': 'role', 'permissions': []}, [{'role': f'roles/r{number}'} for number in range(5, 1000)])
 admin('A6', {'kind': 'role', 'role': 'roles/r1000', 'permissions': []})
 admin('A3 permissions', {'kind': 'role', 'role': 'roles/r1000', 'permissions': ['a.b']})
 puts({'kind': 'role', 'role': 'roles/r999', 'permissions': []}, at=0)

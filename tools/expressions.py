@@ -10,6 +10,7 @@ from datetime import datetime, timedelta
 
 from cel_types import LITERALS, MACROS, ROWS, Fault, Node, Parser, fits, read, type_of
 from case_line import unescaped
+from forms import read_json
 
 RESERVED = set('as break const continue else for function if import let loop namespace package return var void while'.split())
 KEYWORDS = set(LITERALS) | {'in'}
@@ -509,7 +510,6 @@ def lines_of(inputs, answers):
 
 
 def check():
-    from model import read_json
     count = 0
     for line, told in lines_of(read('crates', 'case_runs', 'stdin').split('\n'), read('crates', 'case_runs', 'stdout').split('\n')):
         if told == 'bad line':

@@ -2,103 +2,24 @@
 
 It is written from the documents of the formats (docs/FORMATS.md) alone, and makes the expected replies of the stored run.
 """
-import json
 import re
 from urllib.parse import unquote_to_bytes
 
-from expressions import EvalError, Moment, checked, holds, meaning, result, value_of
+from boundaries import SEEN, allows, are_exact, read_boundary, read_rules, sees, written
+from chains import DEEPEST, Federated, Narrow, carries
+from expressions import EvalError, checked, holds, meaning, result, value_of
+from forms import Fault, covers, has_form, read_json, read_member, read_object
 from signing import compact, decoded, encoded, mac, provider_name, signed
 
 EVERY = 'https://www.googleapis.com/auth/cloud-platform'
 OAUTH = 'urn:ietf:params:oauth:'
+EXCHANGE, ACCESS = OAUTH + 'grant-type:token-exchange', OAUTH + 'token-type:access_token'
+OUTSIDE = (OAUTH + 'token-type:jwt', OAUTH + 'token-type:id_token')
+SINGLE = ('grant_type', 'subject_token', 'subject_token_type', 'actor_token', 'actor_token_type', 'requested_token_type', 'scope', 'options')
 LATEST = 2 ** 53
 SUBJECT_KEY, GROUPS_KEY = 'google.subject', 'google.groups'
 CLAIMS = {'assertion': ('map', 'dyn')}
 MAPPED = {**CLAIMS, 'google': ('map', 'dyn'), 'attribute': ('map', 'string')}
-ASKED = {'resource': ('map', 'string'), 'request': ('map', 'timestamp')}
-
-POOL_PATH = r'iam\.googleapis\.com/projects/(?P<project>[1-9][0-9]{0,18})/locations/global/workloadIdentityPools/(?P<pool>[a-z0-9-]{4,32})'
-ACCOUNT = r'[a-z0-9-]{1,63}@[a-z0-9-]{1,63}\.iam\.gserviceaccount\.com'
-FORMS = {
-    'project': r'[1-9][0-9]{0,18}',
-    'pool': r'[a-z0-9-]{4,32}',
-    'pool name': r'[1-9][0-9]{0,18}/[a-z0-9-]{4,32}',
-    'account': ACCOUNT,
-    'permission': r'(?=.{1,128}$)[A-Za-z0-9]+\.[A-Za-z0-9]+\.[A-Za-z0-9]+',
-    'role': r'roles/[A-Za-z0-9_.]{1,64}',
-    'scope': r'[!#-\[\]-~]{1,128}',
-    'scopes': r'[!#-\[\]-~]{1,128}( [!#-\[\]-~]{1,128}){0,15}',
-    'attribute': r'[a-z0-9_]{1,100}',
-    'mapping key': r'google\.subject|google\.groups|attribute\.[a-z0-9_]{1,100}',
-    'resource': r'(?=.{1,1024}$)//[a-z0-9.-]+(/[!#-.0-\[\]-~]+)*',
-    'member': rf'principal://{POOL_PATH}/subject/(?P<subject>.+)|principalSet://{POOL_PATH.replace("?P<", "?P<set")}/'
-              rf'(\*|group/(?P<group>.+)|attribute\.(?P<name>[a-z0-9_]{{1,100}})/(?P<value>.+))|serviceAccount:(?P<account>{ACCOUNT})',
-}
-
-
-class Fault(Exception):
-    """A rule that fails: its code, and the detail behind it."""
-
-
-def has_form(value, form):
-    return isinstance(value, str) and re.fullmatch(FORMS[form], value, re.DOTALL) is not None
-
-
-def read_member(text):
-    """The parts of a member of an allow policy, or none."""
-    found = isinstance(text, str) and re.fullmatch(FORMS['member'], text, re.DOTALL)
-    if not found:
-        return None
-    parts = found.groupdict()
-    for part, limit in (('subject', 127), ('group', 256), ('value', 256)):
-        if parts[part] is not None and len(parts[part].encode()) > limit:
-            return None
-    return parts
-
-
-class Broken(float):
-    """A JSON number that is no whole number of 64 bits."""
-
-
-def whole(text):
-    return Broken(text) if text == '-0' or not -2 ** 63 <= int(text) < 2 ** 64 else int(text)
-
-
-def fraction(text):
-    number = Broken(text)
-    if number in (float('inf'), float('-inf')):
-        raise ValueError(text)
-    return number
-
-
-def depth_of(value):
-    if isinstance(value, (dict, list)):
-        return 1 + max([depth_of(part) for part in (value.values() if isinstance(value, dict) else value)], default=0)
-    return 0
-
-
-def no_constant(text):
-    raise ValueError(text)
-
-
-def read_json(data):
-    """The value of a JSON text in UTF-8, at most 127 deep; else ValueError. The last of a repeated member counts."""
-    text = data.decode()
-    value = json.loads(text, parse_int=whole, parse_float=fraction, parse_constant=no_constant)
-    json.dumps(value, ensure_ascii=False, default=str).encode()
-    if depth_of(value) > 127:
-        raise ValueError('too deep')
-    return value
-
-
-def read_object(data, code):
-    try:
-        value = read_json(data)
-    except (ValueError, RecursionError):
-        raise Fault(code) from None
-    if not isinstance(value, dict):
-        raise Fault(code)
-    return value
 
 
 def strict_base64(text, part):
@@ -201,7 +122,7 @@ class Service:
 
     def __init__(self, config):
         self.config, self.own = config, decoded(config['key'])
-        self.pools, self.providers, self.links, self.entries = {}, {}, [], 0
+        self.pools, self.providers, self.issued, self.entries = {}, {}, {}, 0
         self.accounts, self.roles, self.policies, self.scopes = {}, {}, {}, {EVERY: '*'}
         if 'start' in config:
             self.pools[pool_of(config['start'])] = True
@@ -221,51 +142,100 @@ class Service:
             return refusal(str(fault))
 
     def exchange(self, bearer, at, body):
-        pairs = read_form(body)
-        more = ('requested_token_type', 'actor_token', 'actor_token_type', 'resource', 'scope', 'options')
-        if pairs is None or values(pairs, 'grant_type') != [OAUTH + 'grant-type:token-exchange'] \
-                or values(pairs, 'subject_token_type') not in ([OAUTH + 'token-type:jwt'], [OAUTH + 'token-type:id_token']) \
-                or len(values(pairs, 'subject_token')) != 1 or any(values(pairs, name) for name in more):
+        asked, boundary, audiences = self.asked(body)
+        if asked['actor_token']:
             raise Fault('Z1')
-        audiences = values(pairs, 'audience')
+        narrows = asked['subject_token_type'] == ACCESS
+        link = self.narrow(asked, boundary, audiences, at) if narrows else self.federated(asked, audiences, at)
+        facts = self.facts(link, len(self.issued))
+        token = signed(self.own, facts)
+        if len(token) > 8192:
+            raise Fault('E25')
+        self.issued[token] = link, facts
+        self.entries += 1
+        return {'access_token': token, 'expires_in': link.exp - at, 'issued_token_type': ACCESS, 'scope': link.scope, 'token_type': 'Bearer'}
+
+    def federated(self, asked, audiences, at):
+        """The link to a subject token from outside, or the first rule that it fails."""
         if len(audiences) != 1 or audiences[0] not in self.providers:
             raise Fault('E14')
         provider = self.providers[audiences[0]]
         if provider['disabled'] or not self.pools[provider['pool']]:
             raise Fault('E15')
-        claims, tree = signed_claims(provider, values(pairs, 'subject_token')[0])
+        claims, tree = signed_claims(provider, asked['subject_token'])
         admitted(provider, audiences[0], claims, at)
-        facts = self.facts(provider['pool'], claims, identity(provider, value_of(tree)), at)
-        token = signed(self.own, facts)
-        if len(token) > 8192:
-            raise Fault('E25')
-        self.links.append((token, facts))
-        self.entries += 1
-        return {'access_token': token, 'expires_in': facts['exp'] - at, 'issued_token_type': OAUTH + 'token-type:access_token',
-                'scope': facts['scope'], 'token_type': 'Bearer'}
+        who = sorted_members(dict(identity(provider, value_of(tree)), pool=provider['pool']))
+        return Federated(at, asked['scope'] or EVERY, claims['exp'], who, claims['may_act'])
 
-    def facts(self, pool, claims, who, at):
-        facts = {'exp': min(claims['exp'], at + 3600), 'iat': at, 'iss': self.config['issuer'], 'jti': str(len(self.links))}
-        if claims['may_act']:
-            facts['may_act'] = nested('may_act', claims['may_act'])
-        who = sorted_members(dict(who, pool=pool))
-        facts.update(scope=EVERY, sub=name_of(who), wif={'accounts': [], 'bounds': [], 'pools': [pool], 'scopes': [EVERY], 'who': who})
-        return facts
+    def narrow(self, asked, boundary, audiences, at):
+        """The link to a link whose token was issued, or the first rule that it fails."""
+        if audiences:
+            raise Fault('E14')
+        parent, _ = self.issued.get(asked['subject_token'], (None, None))
+        if parent is None or not parent.is_live(self.pools, at):
+            raise Fault('E21')
+        if parent.depth == DEEPEST:
+            raise Fault('E24')
+        return Narrow(at, asked['scope'] or parent.scope, parent, boundary)
+
+    def asked(self, body):
+        """The parameters of an exchange that are there once at most, its boundary or none, and its audiences; or the first fault of its form."""
+        pairs = read_form(body)
+        if pairs is None:
+            raise Fault('E1')
+        if any(len(values(pairs, name)) > 1 for name in SINGLE):
+            raise Fault('E2')
+        asked = {name: ''.join(values(pairs, name)) for name in SINGLE}
+        outside, is_delegated = asked['subject_token_type'] in OUTSIDE, asked['actor_token'] != ''
+        for code, is_fit in [('E3', asked['grant_type']), ('E4', asked['grant_type'] == EXCHANGE), ('E5', asked['subject_token']),
+                             ('E6', outside or asked['subject_token_type'] == ACCESS),
+                             ('E7', asked['requested_token_type'] in ('', ACCESS)), ('E8', is_delegated == (asked['actor_token_type'] != '')),
+                             ('E9', asked['actor_token_type'] in ('', ACCESS)), ('E10', not values(pairs, 'resource')),
+                             ('E11', not asked['scope'] or self.are_words(asked['scope']))]:
+            if not is_fit:
+                raise Fault(code)
+        boundary = self.boundary_of(asked['options']) if asked['options'] else None
+        if (boundary is not None) + is_delegated + outside > 1:
+            raise Fault('E13')
+        return asked, boundary, values(pairs, 'audience')
+
+    def are_words(self, scope):
+        return has_form(scope, 'scopes') and all(word in self.scopes for word in scope.split(' '))
+
+    def boundary_of(self, options):
+        """The rules of the boundary that the options have, or none."""
+        options = read_object(options.encode(), 'E12 Json')
+        if 'accessBoundary' not in options:
+            return None
+        try:
+            rules = read_boundary(options['accessBoundary'])
+        except Fault as fault:
+            raise Fault(f'E12 {fault}') from None
+        for number, (_, roles, _) in enumerate(rules):
+            if not all(role in self.roles for role in roles):
+                raise Fault(f'E12 Role {number}')
+        return written(options['accessBoundary'])
+
+    def facts(self, link, number):
+        """What the token of a link with this number tells."""
+        facts = {'exp': link.exp, 'iat': link.at, 'iss': self.config['issuer'], 'jti': str(number)}
+        if link.may_act:
+            facts['may_act'] = nested('may_act', link.may_act)
+        return dict(facts, scope=link.scope, sub=name_of(link.who), wif=carries(link))
 
     def introspect(self, bearer, at, body):
         if bearer != self.config['gate']:
             raise Fault('U1')
         pairs = read_form(body)
         if pairs is None:
-            raise Fault('Z1')
+            raise Fault('N1')
         tokens = values(pairs, 'token')
         if len(tokens) != 1:
             raise Fault('N2')
-        for token, facts in self.links:
-            if token == tokens[0] and at < facts['exp'] and all(self.pools[pool] for pool in facts['wif']['pools']):
-                told = {name: facts[name] for name in ('exp', 'iat', 'iss', 'jti', 'scope', 'sub')}
-                return dict({'active': True}, **told, token_type='Bearer')
-        return {'active': False}
+        link, facts = self.issued.get(tokens[0], (None, None))
+        if link is None or not link.is_live(self.pools, at):
+            return {'active': False}
+        return dict({'active': True}, **{name: facts[name] for name in ('exp', 'iat', 'iss', 'jti', 'scope', 'sub')}, token_type='Bearer')
 
     def check(self, bearer, at, body):
         if bearer != self.config['gate']:
@@ -276,25 +246,44 @@ class Service:
         for code, holds in rules:
             if not holds:
                 raise Fault(code)
-        denial = self.denial(asked['token'], asked['permission'], asked['resource'], at)
+        denial = self.decision(asked['token'], asked['permission'], asked['resource'], at)
         if denial is None:
             return {'allowed': True}
         reason, _, place = denial.partition(' ')
         return dict({'allowed': False}, **({'place': int(place)} if place else {}), reason=reason)
 
-    def denial(self, text, permission, resource, at):
-        """The first rule that denies, with its place, or none."""
+    def decision(self, text, permission, resource, at):
+        """The first rule that denies, with its place, or none. A token that was issued is decided by its link, as well as by its text."""
         try:
-            facts = self.carried(text)
+            carried = self.carried(text)
+            by_text = self.denial(carried['exp'], carried['wif'], permission, resource, at)
         except Fault as fault:
-            return str(fault)
-        if facts['exp'] <= at:
+            by_text = str(fault)
+        if text in self.issued:
+            link, _ = self.issued[text]
+            by_link = None if self.admits(link, permission, resource, at) else self.denial(link.exp, carries(link), permission, resource, at)
+            if by_link != by_text:
+                raise RuntimeError(f'by its link {by_link}, by its text {by_text}: {text}')
+        return by_text
+
+    def admits(self, link, permission, resource, at):
+        """Whether each link down to the root is live and allows it, and it is granted to whom the link is for."""
+        return link.is_live(self.pools, at) and self.grants(link.who, permission, resource, at) and all(
+            self.words_allow(words, permission) and (rules is None or allows(self.roles, read_rules(rules), permission, resource, at))
+            for words, rules in link.narrowings())
+
+    def words_allow(self, words, permission):
+        known = [self.scopes.get(word, []) for word in words.split(' ')]
+        return any(what == '*' or permission in what for what in known)
+
+    def denial(self, exp, wif, permission, resource, at):
+        """The first rule that denies what is carried, with its place, or none."""
+        if exp <= at:
             return 'G4'
-        wif = facts['wif']
-        lists = [[self.scopes.get(word, []) for word in words.split(' ')] for words in wif['scopes']]
         for rule, held in [('G5', [self.pools.get(pool, False) for pool in wif['pools']]),
                            ('G6', [self.accounts.get(account, False) for account in wif['accounts']]),
-                           ('G7', [any(what == '*' or permission in what for what in words) for words in lists])]:
+                           ('G7', [self.words_allow(words, permission) for words in wif['scopes']]),
+                           ('G8', [allows(self.roles, read_rules(rules), permission, resource, at) for rules in wif['bounds']])]:
             if False in held:
                 return f'{rule} {held.index(False)}'
         return None if self.grants(wif['who'], permission, resource, at) else 'G9'
@@ -319,17 +308,16 @@ class Service:
         jti = facts['jti']
         return (is_count(facts['exp'], LATEST) and is_count(facts['iat'], LATEST) and facts['iss'] == self.config['issuer']
                 and isinstance(jti, str) and re.fullmatch('0|[1-9][0-9]{0,9}', jti) is not None and int(jti) < 2 ** 32
-                and all(has_form(account, 'account') for account in wif['accounts']) and wif['bounds'] == []
+                and all(has_form(account, 'account') for account in wif['accounts']) and all(map(are_exact, wif['bounds']))
                 and all(has_form(pool, 'pool name') for pool in wif['pools'])
                 and wif['scopes'] != [] and all(has_form(words, 'scopes') for words in wif['scopes']) and facts['scope'] == wif['scopes'][-1]
                 and is_principal(facts['sub']) and name_of(wif['who']) is not None
                 and are_actors(facts, 'act', is_principal) and are_actors(facts, 'may_act', is_actor))
 
     def grants(self, who, permission, resource, at):
-        host, _, path = resource.removeprefix('//').partition('/')
-        env = {'resource': {'service': host, 'name': path}, 'request': {'time': Moment(at)}}
+        env = sees(resource, at)
         for upper, bindings in self.policies.items():
-            if resource == upper or resource.startswith(upper + '/'):
+            if covers(upper, resource):
                 for role, members, condition in bindings:
                     if permission in self.roles[role] and any(names(read_member(one), who) for one in members) and holds(condition, env):
                         return True
@@ -473,7 +461,7 @@ def is_condition(value):
 
 def bindings_of(command):
     """A policy's bindings, or the fault of their expressions."""
-    conditions = [expression(one['condition']['expression'], ASKED, 'bool', 'bindings') if 'condition' in one else None
+    conditions = [expression(one['condition']['expression'], SEEN, 'bool', 'bindings') if 'condition' in one else None
                   for one in command['bindings']]
     return [(one['role'], one['members'], condition) for one, condition in zip(command['bindings'], conditions)]
 
@@ -559,12 +547,9 @@ def sorted_members(value):
 
 def refusal(text):
     code = text.partition(' ')[0]
-    if code in ('E15', 'E14', 'E10'):
-        status, word = 400, 'invalid_target'
-    elif code[0] in 'CA':
-        status, word = 400, 'invalid_argument'
-    else:
-        status, word = {'U1': (401, 'invalid_token'), 'H4': (404, 'not_found'), 'Z1': (501, 'not_built')}.get(code, (400, 'invalid_request'))
+    others = {'U1': (401, 'invalid_token'), 'H4': (404, 'not_found'), 'Z1': (501, 'not_built'), 'E4': (400, 'unsupported_grant_type'),
+              'E11': (400, 'invalid_scope'), **dict.fromkeys(('E10', 'E14', 'E15'), (400, 'invalid_target'))}
+    status, word = others.get(code, (400, 'invalid_argument' if code[0] in 'CA' else 'invalid_request'))
     return status, {'error': word, 'error_description': text}
 
 

@@ -3,6 +3,8 @@
 usage: python3 tools/signing.py CONFIG exchange SUBJECT [AT]              a subject token of the configuration's provider, exchanged
        python3 tools/signing.py CONFIG present PROVIDER CLAIMS [AT]       a subject token with these claims, exchanged; PROVIDER is the
                                                                           command that puts its provider, CLAIMS a JSON object
+       python3 tools/signing.py CONFIG narrow TOKEN BOUNDARY [AT]         an access token, exchanged for one with this access boundary, a
+                                                                          JSON object
        python3 tools/signing.py CONFIG introspect TOKEN [AT]
        python3 tools/signing.py CONFIG check TOKEN PERMISSION RESOURCE [AT]
        python3 tools/signing.py CONFIG admin COMMAND [AT]                 COMMAND is a JSON object
@@ -68,17 +70,27 @@ def presented(provider, told, at):
     return frame('/v1/token', '-', at, form(exchange_pairs(provider, signed(decoded(provider['key']), claims))))
 
 
+def narrowed(token, boundary, at):
+    """The exchange of an access token for one that an access boundary, a JSON text, limits."""
+    kinds = 'urn:ietf:params:oauth:'
+    return frame('/v1/token', '-', at, form([
+        ('grant_type', kinds + 'grant-type:token-exchange'), ('subject_token', token), ('subject_token_type', kinds + 'token-type:access_token'),
+        ('options', '{"accessBoundary":' + boundary + '}')]))
+
+
 def main(words):
     with open(words[0]) as source:
         config = json.load(source)
     start, verb, rest = config.get('start'), words[1], words[2:]
-    count = {'exchange': 1, 'present': 2, 'introspect': 1, 'check': 3, 'admin': 1}[verb]
+    count = {'exchange': 1, 'present': 2, 'narrow': 2, 'introspect': 1, 'check': 3, 'admin': 1}[verb]
     at = int(rest[count]) if len(rest) > count else AT
     gate = config['gate']
     if verb == 'exchange':
         made = presented(start, {'sub': rest[0]}, at)
     elif verb == 'present':
         made = presented(json.loads(rest[0]), json.loads(rest[1]), at)
+    elif verb == 'narrow':
+        made = narrowed(rest[0], rest[1], at)
     elif verb == 'introspect':
         made = frame('/v1/introspect', gate, at, 'token=' + rest[0])
     elif verb == 'check':
@@ -89,6 +101,6 @@ def main(words):
 
 
 if __name__ == '__main__':
-    if len(sys.argv) < 4 or sys.argv[2] not in ('exchange', 'present', 'introspect', 'check', 'admin'):
+    if len(sys.argv) < 4 or sys.argv[2] not in ('exchange', 'present', 'narrow', 'introspect', 'check', 'admin'):
         sys.exit(__doc__)
     main(sys.argv[1:])

@@ -2,6 +2,7 @@
 //! for it is what the call answers. A line that begins with `#` is printed as it stands, and so is an empty one.
 #![tactic(auto)]
 
+mod boundaries;
 mod escapes;
 mod expressions;
 mod inputs;
@@ -52,6 +53,8 @@ fn answer_of_names(alloc: Global, call: &str, inputs: &Inputs) -> Result<String,
         "lines" => expressions::lines(alloc, inputs),
         "overloads" => expressions::overloads(alloc),
         "admit" => providers::admitted(alloc, inputs),
+        "boundary" => boundaries::rules(alloc, inputs),
+        "bound" => boundaries::bound(alloc, inputs),
         _ => "no such call".to_owned(alloc),
     }
 }
