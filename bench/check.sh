@@ -4,9 +4,10 @@
 # grow at most in proportion to the text.
 . "$(dirname "$0")/setup.sh"
 python3 - "$top" "$work" <<'END'
-import json, re, shutil, subprocess, sys
+import json, shutil, subprocess, sys
 top, work = sys.argv[1:]
-sys.path.insert(0, top + '/tools')
+sys.path[:0] = [top + '/tools', top + '/bench']
+from counting import instructions
 from signing import AT, compact, decoded, frame, signed
 
 config = top + '/examples/ci/config.json'
@@ -29,14 +30,6 @@ def token(bounds):
     payload = {'exp': AT + 900, 'iat': AT, 'iss': secrets['issuer'], 'jti': '0', 'scope': scope, 'sub': sub, 'wif': wif}
     return signed(decoded(secrets['key']), payload)
 
-def instructions(script):
-    with open(work + '/input', 'wb') as f:
-        f.write(script)
-    with open(work + '/input', 'rb') as source:
-        run = subprocess.run(['valgrind', '--tool=callgrind', '--callgrind-out-file=/dev/null', work + '/sts', 'script', config, 'none'],
-                             stdin=source, capture_output=True)
-    return int(re.search(rb'refs:\s+([0-9,]+)', run.stderr).group(1).replace(b',', b''))
-
 print(f"{'boundaries':>10} {'bytes':>7} {'instructions':>13} {'a byte':>7}")
 for bounds in (0, 1, 2, 4, 8):
     text = token(bounds)
@@ -47,7 +40,7 @@ for bounds in (0, 1, 2, 4, 8):
         if b'"allowed":true' not in subprocess.run([work + '/sts', 'script', config, 'none'], stdin=source, stdout=subprocess.PIPE).stdout:
             sys.exit('a check is denied')
     if shutil.which('valgrind'):
-        each = (instructions(world + asked * 200) - instructions(world)) / 200
+        each = (instructions(work, config, world + asked * 200) - instructions(work, config, world)) / 200
         print(f'{bounds:10} {len(text):7} {each:13.0f} {each / len(text):7.0f}', flush=True)
     else:
         print(f'{bounds:10} {len(text):7}')

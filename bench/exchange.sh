@@ -43,8 +43,9 @@ for links in (10, 1000, 100000):
     if len(set(told.values())) != 1:
         sys.exit('the programs differ')
 
-import json, re, shutil
-sys.path.insert(0, top + '/tools')
+import json, shutil
+sys.path[:0] = [top + '/tools', top + '/bench']
+from counting import instructions
 from signing import AT, compact, frame, presented
 
 config = top + '/examples/ci/config.json'
@@ -75,14 +76,6 @@ def checked(text, resource):
     asked = {'token': text, 'permission': 'storage.objects.get', 'resource': resource + '/builds/x'}
     return frame('/v1/check', secrets['gate'], AT, compact(asked))
 
-def instructions(script):
-    with open(work + '/input', 'wb') as f:
-        f.write(script)
-    with open(work + '/input', 'rb') as source:
-        run = subprocess.run(['valgrind', '--tool=callgrind', '--callgrind-out-file=/dev/null', work + '/sts', 'script', config, 'none'],
-                             stdin=source, capture_output=True)
-    return int(re.search(rb'refs:\s+([0-9,]+)', run.stderr).group(1).replace(b',', b''))
-
 def instructions_each(request, good):
     """The mean of 200 requests behind the world, each of which has a reply like this."""
     with open(work + '/input', 'wb') as f:
@@ -90,7 +83,7 @@ def instructions_each(request, good):
     with open(work + '/input', 'rb') as source:
         if good not in subprocess.run([work + '/sts', 'script', config, 'none'], stdin=source, stdout=subprocess.PIPE).stdout:
             sys.exit('a request is refused')
-    return (instructions(world + request * 200) - instructions(world)) / 200
+    return (instructions(work, config, world + request * 200) - instructions(work, config, world)) / 200
 
 if shutil.which('valgrind'):
     programs['ci'] = [work + '/sts', 'script', config, 'none']
