@@ -1,56 +1,84 @@
--- The authority of a link, by the lists that it carries, and that of a narrowed link by its parent's.
-use Rattle.std.proofs.Common.{◌≡◌, ◌≤◌, ◌+◌, ℕ, min, Bool, true, false, ◌&&◌, nat_lt, List, refl, sym, ◌∙◌, ap, arith, ltb-true, lt-ltb}
-use Rattle.std.specs.Prelude.{Option, None, Some}
+-- The authority of a link, by the lists that it carries.
+use Rattle.std.proofs.Common.{◌≡◌, ◌+◌, ℕ, min, Bool, true, false, ◌&&◌, nat_lt, List, refl, ◌∙◌, ap, arith, ltb-true, lt-ltb}
+use Rattle.std.specs.Prelude.{None, Some}
 use Rattle.std.specs.List.{list_all}
 use Rattle.std.proofs.lemmas.List.Folds.{list_all-append}
-use Rattle.allow_policy.specs.Granting.{granted, scope_allows}
+use Rattle.allow_policy.specs.Granting.{scope_allows}
 use Rattle.boundary.specs.Allowing.{boundary_allows}
 use Rattle.boundary.specs.declared.rules.Boundary.{Boundary}
 use Rattle.service_view.specs.View.{View, account_enabled, pool_enabled}
-use Rattle.links.specs.Authority.{admits, allows, allows_itself, live, lives_itself}
-use Rattle.links.specs.Chain.{Own, Chain, Root, Narrowed}
-use Rattle.links.specs.Facts.{exp_of, who_of, pools_of, accounts_of, scopes_of, bounds_of}
-use Rattle.links.proofs.GoodLinks.{no_accounts}
-
-both : (a b : Bool) → (a && b) ≡ true → (a ≡ true) × (b ≡ true)
-both true b h = (refl, h)
-both false b h = cc
-
-both_from : (a b : Bool) → a ≡ true → b ≡ true → (a && b) ≡ true
-both_from true true h k = refl
-both_from false b h k = absurd (cc h)
-both_from true false h k = absurd (cc k)
-
-and_true : (a : Bool) → (a && true) ≡ a
-and_true true = refl
-and_true false = refl
+use Rattle.links.specs.Authority.{allows, live}
+use Rattle.links.specs.Chain.{Chain, Root, Narrowed, Impersonated, Delegated}
+use Rattle.links.specs.Facts.{exp_of, pools_in, pools_of, accounts_of, scopes_of, bounds_of}
 
 -- before the smaller of two moments is before both
 below_min : (now a b : ℕ) → nat_lt now (min a b) ≡ true → nat_lt now a ≡ true
 below_min now a b h = lt-ltb now a (omega (arith, ltb-true now (min a b) h))
 
+below_min_too : (now a b : ℕ) → nat_lt now (min a b) ≡ true → nat_lt now b ≡ true
+below_min_too now a b h = lt-ltb now b (omega (arith, ltb-true now (min a b) h))
+
 -- ---- live
 
-narrowed_lives : (earlier parents pools : Bool) → (earlier ≡ true → parents ≡ true) → ((earlier && true) && (parents && pools)) ≡ (earlier && pools)
-narrowed_lives false parents pools f = refl
-narrowed_lives true parents pools f = ap (λ (b : Bool). b && pools) (f refl)
+-- what the link asks itself joins what its parents ask
+root_lives : (early pools : Bool) → (early && pools) ≡ (early && (pools && true))
+root_lives false pools = refl
+root_lives true true = refl
+root_lives true false = refl
 
-pub live_by_pools : (view : View) (chain : Chain) (now : ℕ)
-    → live view chain now ≡ (nat_lt now (exp_of chain) && list_all (pool_enabled view) (pools_of chain))
-live_by_pools view (Root o source) now = refl
-live_by_pools view (Narrowed o boundary parent) now =
-    rw (live_by_pools view parent now)
-    (narrowed_lives (nat_lt now (exp_of (Narrowed o boundary parent))) (nat_lt now (exp_of parent)) (list_all (pool_enabled view) (pools_of parent))
-    (below_min now (exp_of parent) (o.at + 3600)))
+narrowed_lives : (early parents pools accounts : Bool) → (early ≡ true → parents ≡ true)
+    → ((early && true) && (parents && (pools && accounts))) ≡ (early && (pools && accounts))
+narrowed_lives false parents pools accounts f = refl
+narrowed_lives true parents pools accounts f = ap (λ (b : Bool). b && (pools && accounts)) (f refl)
+
+own_last : (own pools accounts : Bool) → (own && (pools && accounts)) ≡ (pools && (accounts && own))
+own_last true true true = refl
+own_last true true false = refl
+own_last true false accounts = refl
+own_last false true true = refl
+own_last false true false = refl
+own_last false false accounts = refl
+
+impersonated_lives : (early parents pools accounts own : Bool) → (early ≡ true → parents ≡ true)
+    → ((early && own) && (parents && (pools && accounts))) ≡ (early && (pools && (accounts && own)))
+impersonated_lives false parents pools accounts own f = refl
+impersonated_lives true parents pools accounts own f = ap (λ (b : Bool). own && (b && (pools && accounts))) (f refl) ∙ own_last own pools accounts
+
+paired : (p q r s : Bool) → ((p && r) && (q && s)) ≡ ((p && q) && (r && s))
+paired false q r s = refl
+paired true false false s = refl
+paired true true false s = refl
+paired true false true s = refl
+paired true true true s = refl
+
+delegated_lives : (early subjects actors p q r s : Bool) → (early ≡ true → subjects ≡ true) → (early ≡ true → actors ≡ true)
+    → ((early && true) && ((subjects && (p && r)) && (actors && (q && s)))) ≡ (early && ((p && q) && (r && s)))
+delegated_lives false subjects actors p q r s f g = refl
+delegated_lives true subjects actors p q r s f g =
+    ap (λ (b : Bool). (b && (p && r)) && (actors && (q && s))) (f refl) ∙ ap (λ (b : Bool). (p && r) && (b && (q && s))) (g refl) ∙ paired p q r s
 
 pub live_by_lists : (view : View) (chain : Chain) (now : ℕ)
     → live view chain now
     ≡ (nat_lt now (exp_of chain) && (list_all (pool_enabled view) (pools_of chain) && list_all (account_enabled view) (accounts_of chain)))
-live_by_lists view chain now =
-    let accounts : list_all (account_enabled view) (accounts_of chain) ≡ true = ap (list_all (account_enabled view)) (no_accounts chain) in
-    let pools = list_all (pool_enabled view) (pools_of chain) in
-    live_by_pools view chain now
-    ∙ ap (λ (b : Bool). nat_lt now (exp_of chain) && b) (sym (ap (λ (b : Bool). pools && b) accounts ∙ and_true pools))
+live_by_lists view (Root o source) now = root_lives (nat_lt now (exp_of (Root o source))) (list_all (pool_enabled view) (pools_in source.who))
+live_by_lists view (Narrowed o boundary parent) now =
+    rw (live_by_lists view parent now)
+    (narrowed_lives (nat_lt now (exp_of (Narrowed o boundary parent))) (nat_lt now (exp_of parent)) (list_all (pool_enabled view) (pools_of parent))
+    (list_all (account_enabled view) (accounts_of parent)) (below_min now (exp_of parent) (o.at + 3600)))
+live_by_lists view (Impersonated o accounts lifetime parent) now =
+    rw (live_by_lists view parent now, list_all-append)
+    (impersonated_lives (nat_lt now (exp_of (Impersonated o accounts lifetime parent))) (nat_lt now (exp_of parent))
+    (list_all (pool_enabled view) (pools_of parent)) (list_all (account_enabled view) (accounts_of parent)) (list_all (account_enabled view) accounts)
+    (below_min now (exp_of parent) (o.at + lifetime)))
+live_by_lists view (Delegated o subject actor) now =
+    let first = exp_of subject in
+    let second = exp_of actor in
+    rw (live_by_lists view subject now, live_by_lists view actor now)
+    (simp list_all-append (delegated_lives (nat_lt now (exp_of (Delegated o subject actor))) (nat_lt now first) (nat_lt now second)
+    (list_all (pool_enabled view) (pools_of subject)) (list_all (pool_enabled view) (pools_of actor))
+    (list_all (account_enabled view) (accounts_of subject)) (list_all (account_enabled view) (accounts_of actor))
+    (λ h. below_min now first second (below_min now (min first second) (o.at + 3600) h))
+    (λ h. below_min_too now first second (below_min now (min first second) (o.at + 3600) h))))
 
 -- ---- allows
 
@@ -94,23 +122,11 @@ allows_by_lists view (Narrowed o (Some boundary) parent) permission resource now
     rw (allows_by_lists view parent permission resource now)
     (simp list_all-append (bounds_last (scope_allows view.lists o.words permission) (boundary_allows view.lists.roles boundary permission resource now)
     (words_allow view permission (scopes_of parent)) (bounds_allow view permission resource now (bounds_of parent))))
-
--- ---- a narrowed link
-
-pub parent_lives : (view : View) (o : Own) (boundary : Option Boundary) (parent : Chain) (now : ℕ) → live view (Narrowed o boundary parent) now ≡ true
-    → live view parent now ≡ true
-parent_lives view o boundary parent now is = (both (lives_itself view (Narrowed o boundary parent) now) (live view parent now) is).1
-
-pub parent_admits : (view : View) (o : Own) (boundary : Option Boundary) (parent : Chain) (permission resource : List ℕ) (now : ℕ)
-    → admits view (Narrowed o boundary parent) permission resource now ≡ true → admits view parent permission resource now ≡ true
-parent_admits view o boundary parent permission resource now is =
-    let found = Narrowed o boundary parent in
-    let grants = granted view.lists (who_of parent) permission resource now in
-    let lives = both (live view found now) (allows view found permission resource now && grants) is in
-    let may = both (allows view found permission resource now) grants lives.1 in
-    let more = both (allows_itself view found permission resource now) (allows view parent permission resource now) may.0 in
-    both_from (live view parent now) (allows view parent permission resource now && grants) (parent_lives view o boundary parent now lives.0)
-    (both_from (allows view parent permission resource now) grants more.1 may.1)
-
-pub parent_outlives : (o : Own) (boundary : Option Boundary) (parent : Chain) → exp_of (Narrowed o boundary parent) ≤ exp_of parent
-parent_outlives o boundary parent = omega arith
+allows_by_lists view (Impersonated o accounts lifetime parent) permission resource now =
+    rw (allows_by_lists view parent permission resource now, list_all-append)
+    (words_last (scope_allows view.lists o.words permission) (words_allow view permission (scopes_of parent))
+    (bounds_allow view permission resource now (bounds_of parent)))
+allows_by_lists view (Delegated o subject actor) permission resource now =
+    rw (allows_by_lists view subject permission resource now, list_all-append)
+    (words_last (scope_allows view.lists o.words permission) (words_allow view permission (scopes_of subject))
+    (bounds_allow view permission resource now (bounds_of subject)))

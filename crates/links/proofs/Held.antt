@@ -1,26 +1,31 @@
 -- What a state holds of its links stays right when a link comes.
 use Rattle.std.proofs.Common.{◌≡◌, ◌+◌, ◌<◌, ◌≤◌, ℕ, zero, suc, List, [], ◌∷◌, ◌++◌, length, map, refl, sym, ◌∙◌, ap, subst, arith, Option, None, Some}
+use Rattle.std.proofs.Math.Seq.{drop-append_seam}
 use Rattle.std.proofs.lemmas.Bool.Decides.{nat_tests}
-use Rattle.std.specs.Prelude.{true, false, ◌&&◌, nat_lt, is_some, slice_get, option_map}
+use Rattle.std.specs.Prelude.{Bool, true, false, ◌&&◌, nat_lt, is_some, slice_get, option_map}
 use Rattle.std.specs.List.{list_all}
 use Rattle.hmac_jws.specs.Compact.{compact}
 use Rattle.access_token.specs.declared.facts.Facts.{Facts}
 use Rattle.access_token.specs.Payload.{last_words, payload_text}
-use Rattle.service_view.specs.View.{View, pool_enabled}
+use Rattle.allow_policy.specs.Granting.{granted, scope_allows}
+use Rattle.boundary.specs.Allowing.{boundary_allows}
+use Rattle.derived_facts.specs.Derived.{with_boundary}
+use Rattle.service_view.specs.View.{View, account_enabled, pool_enabled}
 use Rattle.boundary.specs.declared.rules.Boundary.{Boundary}
 use Rattle.links.specs.declared.entry.Entry.{Entry}
 use Rattle.links.specs.declared.entry.Entry.TheVariants as entry
 use Rattle.links.specs.declared.recorded.RecordedLink.{RecordedLink}
-use Rattle.links.specs.Authority.{live}
-use Rattle.links.specs.declared.source.Source.{Source}
-use Rattle.links.specs.Chain.{Kind, Federated, Narrow, Link, Own, Chain, Root, Narrowed, own, own_at, chains_of, chain_at, chain_of_kind, next_chain}
-use Rattle.links.specs.Facts.{exp_of, facts_of, scopes_of, bounds_of, with_boundary}
+use Rattle.links.specs.Authority.{admits, allows, live}
+use Rattle.subject_token.specs.declared.source.Source.{Source}
+use Rattle.links.specs.Chain.{Kind, Federated, Narrow, Impersonate, Delegate, Link, Own, Chain, Root, Narrowed, Impersonated, Delegated, own, own_at}
+use Rattle.links.specs.Chain.{chains_of, chain_at, chain_of_kind, next_chain}
+use Rattle.links.specs.Facts.{exp_of, facts_of, who_of, accounts_of, scopes_of, bounds_of}
 use Rattle.links.specs.Recorded.{recorded, link_of_recorded, last_bound, IsHeld, AreHeld}
 use Rattle.links.specs.State.{Content, link_of, made, made_by, token_text, view_behind, with_link, after}
-use Rattle.links.proofs.ByLists.{live_by_pools}
+use Rattle.links.proofs.ByLists.{allows_by_lists, live_by_lists}
 use Rattle.links.proofs.Chains.{chains_of-last, chain_at-last, length-chains_of, chain_stays}
 use Rattle.links.proofs.Good.{AreGood}
-use Rattle.links.proofs.Sound.{good_at, map_some}
+use Rattle.links.proofs.Sound.{delegated_some, good_at, map_some}
 
 pub map-last : {A B : Type 0} (f : A → B) (xs : List A) (x : A) → map f (xs ++ x ∷ []) ≡ map f xs ++ f x ∷ []
 map-last f [] x = refl
@@ -103,6 +108,18 @@ narrowed_told : (o : Own) (boundary : Option Boundary) (parent : Chain) (n : ℕ
 unfolding facts_of
 narrowed_told o boundary parent n is = rw (last_words-last (scopes_of parent) o.words, last_bound-with (bounds_of parent) boundary, is) refl
 
+impersonated_told : (o : Own) (accounts : List (List ℕ)) (lifetime : ℕ) (parent : Chain) (n : ℕ) → (own parent).number ≡ n
+    → link_of_recorded (recorded (Impersonated o accounts lifetime parent))
+    ≡ record { at = o.at; words = o.words; kind = Impersonate n accounts lifetime }
+unfolding facts_of
+impersonated_told o accounts lifetime parent n is =
+    rw (last_words-last (scopes_of parent) o.words, drop-append_seam (accounts_of parent) accounts, is) refl
+
+delegated_told : (o : Own) (subject actor : Chain) (n m : ℕ) → (own subject).number ≡ n → (own actor).number ≡ m
+    → link_of_recorded (recorded (Delegated o subject actor)) ≡ record { at = o.at; words = o.words; kind = Delegate n m }
+unfolding facts_of
+delegated_told o subject actor n m is also = rw (last_words-last (scopes_of subject) o.words, is, also) refl
+
 next_by : (chains : List (Option Chain)) (o : Own) (kind : Kind) (chain : Chain) → AreGood 0 chains → chain_of_kind o chains kind ≡ Some chain
     → link_of_recorded (recorded chain) ≡ record { at = o.at; words = o.words; kind = kind }
 next_by chains o (Federated source) chain all is =
@@ -111,6 +128,14 @@ next_by chains o (Federated source) chain all is =
 next_by chains o (Narrow parent boundary) chain all is =
     let from = map_some (Narrowed o boundary) (chain_at chains parent) chain is in
     ap (λ (c : Chain). link_of_recorded (recorded c)) (sym from.2) ∙ narrowed_told o boundary from.0 parent (good_at chains parent from.0 all from.1).number
+next_by chains o (Impersonate parent accounts lifetime) chain all is =
+    let from = map_some (Impersonated o accounts lifetime) (chain_at chains parent) chain is in
+    ap (λ (c : Chain). link_of_recorded (recorded c)) (sym from.2)
+    ∙ impersonated_told o accounts lifetime from.0 parent (good_at chains parent from.0 all from.1).number
+next_by chains o (Delegate subject actor) chain all is =
+    let from = delegated_some o (chain_at chains subject) (chain_at chains actor) chain is in
+    ap (λ (c : Chain). link_of_recorded (recorded c)) (sym from.4)
+    ∙ delegated_told o from.0 from.1 subject actor (good_at chains subject from.0 all from.2).number (good_at chains actor from.1 all from.3).number
 
 -- what is held of the next link is held of that link
 next_held : (chains : List (Option Chain)) (link : Link) (chain : Chain) → AreGood 0 chains → next_chain chains link ≡ Some chain
@@ -122,6 +147,8 @@ view_stays : (c : Content) (e : Entry) (chain : Chain) → made c e ≡ Some cha
 view_stays c (entry.Put command) chain is = absurd (cc is)
 view_stays c (entry.Federated x) chain is = refl
 view_stays c (entry.Narrow x) chain is = refl
+view_stays c (entry.Impersonate x) chain is = refl
+view_stays c (entry.Delegate x) chain is = refl
 
 -- the content behind an entry that records a link: one entry more, and these links
 abbrev pub with_links : Content → List Link → Content
@@ -180,11 +207,44 @@ pub words_told : (chain : Chain) → (own chain).words ≡ last_words (facts_of 
 unfolding facts_of
 words_told (Root o source) = refl
 words_told (Narrowed o boundary parent) = sym (last_words-last (scopes_of parent) o.words)
+words_told (Impersonated o accounts lifetime parent) = sym (last_words-last (scopes_of parent) o.words)
+words_told (Delegated o subject actor) = sym (last_words-last (scopes_of subject) o.words)
 
-pub live_told : (view : View) (now : ℕ) (chain : Chain)
-    → live view chain now ≡ (nat_lt now (facts_of chain).exp && list_all (pool_enabled view) (facts_of chain).pools)
+-- ---- what facts allow
+
+-- the facts aren't expired, and the pools and accounts that they carry are enabled
+abbrev pub facts_live : View → ℕ → Facts → Bool
+facts_live view now facts =
+    nat_lt now facts.exp && (list_all (pool_enabled view) facts.pools && list_all (account_enabled view) facts.accounts)
+
+-- each list of words and each boundary that the facts carry allows the permission
+abbrev pub facts_allow : View → List ℕ → List ℕ → ℕ → Facts → Bool
+facts_allow view permission resource now facts =
+    list_all (λ words. scope_allows view.lists words permission) facts.scopes
+    && list_all (λ boundary. boundary_allows view.lists.roles boundary permission resource now) facts.bounds
+
+-- both, and their principal is granted the permission
+abbrev pub facts_admit : View → List ℕ → List ℕ → ℕ → Facts → Bool
+facts_admit view permission resource now facts =
+    facts_live view now facts && (facts_allow view permission resource now facts && granted view.lists facts.who permission resource now)
+
+pub who_told : (chain : Chain) → who_of chain ≡ (facts_of chain).who
 unfolding facts_of
-live_told view now chain = live_by_pools view chain now
+who_told chain = refl
+
+pub live_told : (view : View) (now : ℕ) (chain : Chain) → live view chain now ≡ facts_live view now (facts_of chain)
+unfolding facts_of
+live_told view now chain = live_by_lists view chain now
+
+pub allows_told : (view : View) (permission resource : List ℕ) (now : ℕ) (chain : Chain)
+    → allows view chain permission resource now ≡ facts_allow view permission resource now (facts_of chain)
+unfolding facts_of
+allows_told view permission resource now chain = allows_by_lists view chain permission resource now
+
+pub admits_told : (view : View) (permission resource : List ℕ) (now : ℕ) (chain : Chain)
+    → admits view chain permission resource now ≡ facts_admit view permission resource now (facts_of chain)
+admits_told view permission resource now chain =
+    rw (live_told view now chain, allows_told view permission resource now chain, who_told chain) refl
 
 pub text_told : (c : Content) (chain : Chain) → token_text c chain ≡ compact c.key (payload_text c.issuer (facts_of chain))
 unfolding token_text

@@ -23,18 +23,20 @@ use Rattle.service_view.specs.declared.command.Command.TheVariants as command
 use Rattle.links.specs.declared.entry.Entry.{Entry}
 use Rattle.links.specs.declared.entry.Entry.TheVariants as entry
 use Rattle.links.specs.declared.entry.Exchange.{Exchange}
-use Rattle.links.specs.declared.fault.RuleCode.{RuleCode}
-use Rattle.links.specs.declared.fault.RuleCode.TheVariants.{E14, E15, E24}
-use Rattle.links.specs.declared.source.Source.{Source}
+use Rattle.entry_rules.specs.declared.fault.RuleCode.{RuleCode}
+use Rattle.entry_rules.specs.declared.fault.RuleCode.TheVariants.{E14, E15, E24, E25, I10, I11}
+use Rattle.subject_token.specs.declared.source.Source.{Source}
 use Rattle.links.specs.Chain.{Link, Chain, chains_of, own_at}
 use Rattle.links.specs.Entries.{IsEntry, IsExchange}
-use Rattle.links.specs.Licence.{first_unlicensed, is_deep, narrow_rules, size_rule, Licensed, LawfulFrom, Lawful, Reached}
-use Rattle.links.specs.Sources.{passed, source_of}
-use Rattle.links.specs.State.{Content, provider_enabled, source_at, federated_link, narrow_link, link_of, made, with_link, after, start_of, start_provider}
-use Rattle.links.specs.State.{state_after, content_of, chain, view_behind}
+use Rattle.links.specs.Licence.{first_unlicensed, is_deep, narrow_rules, impersonation_rules, delegation_rules, size_rule}
+use Rattle.links.specs.Licence.{Licensed, LawfulFrom, Lawful, Reached}
+use Rattle.subject_token.specs.Sources.{passed, source_of}
+use Rattle.links.specs.State.{Content, provider_enabled, source_at, federated_link, narrow_link, impersonate_link, delegate_link}
+use Rattle.links.specs.State.{link_of, made, with_link, after, start_of, start_provider, state_after, content_of, chain, view_behind}
 use Rattle.links.proofs.Chains.{length-chains_of}
 use Rattle.links.proofs.Good.{IsGood, IsGoodSource, IsWhole, AreGood, AreSound}
-use Rattle.links.proofs.Sound.{IsNext, JoinsAll, all_pass, rule_passes, federated_joins, narrow_joins, good_at, good_there, sound_with, chain_within}
+use Rattle.links.proofs.Sound.{IsNext, JoinsAll, all_pass, rule_passes, federated_joins, narrow_joins, impersonate_joins, delegate_joins}
+use Rattle.links.proofs.Sound.{good_at, good_there, sound_with, chain_within}
 use Rattle.links.proofs.SourceForms.{source_forms}
 
 -- ---- the providers that are there
@@ -78,6 +80,8 @@ entry_providers : (view : View) (e : Entry) → IsEntry e → AreProviders view.
 entry_providers view (entry.Put command) form all = command_providers view command form all
 entry_providers view (entry.Federated x) form all = all
 entry_providers view (entry.Narrow x) form all = all
+entry_providers view (entry.Impersonate x) form all = all
+entry_providers view (entry.Delegate x) form all = all
 
 start_providers_formed : (start : Option StartProvider) → IsFormedStart start → AreProviders (start_view (option_map start_provider start)).providers
 start_providers_formed None formed = tt
@@ -116,7 +120,16 @@ entry_joins c (entry.Federated x) providers all form licensed =
     by_found c x (value_at name c.view.providers) s (λ p at. found_formed name c.view.providers p providers at) there)
 entry_joins c (entry.Narrow x) providers all form licensed =
     narrow_joins (chains_of c.links) _ x.parent x.boundary all (next_is (chains_of c.links) (narrow_link x) form.moment form.words) form.boundary
-    (rule_passes (is_deep (made c (entry.Narrow x))) E24 (all_pass (narrow_rules c x ++ size_rule c (entry.Narrow x) ∷ []) licensed).1.1.1.0)
+    (rule_passes (is_deep (made c (entry.Narrow x))) E24 (all_pass (narrow_rules c x ++ size_rule c (entry.Narrow x) E25 ∷ []) licensed).1.1.1.0)
+entry_joins c (entry.Impersonate x) providers all form licensed =
+    impersonate_joins (chains_of c.links) _ x.parent x.accounts x.lifetime all
+    (next_is (chains_of c.links) (impersonate_link x) form.moment form.words) form.some form.accounts
+    (rule_passes (is_deep (made c (entry.Impersonate x))) I10
+    (all_pass (impersonation_rules c x ++ size_rule c (entry.Impersonate x) I11 ∷ []) licensed).1.1.1.0)
+entry_joins c (entry.Delegate x) providers all form licensed =
+    delegate_joins (chains_of c.links) _ x.subject x.actor all (next_is (chains_of c.links) (delegate_link x) form.moment form.words)
+    (rule_passes (is_deep (made c (entry.Delegate x))) E24
+    (all_pass (delegation_rules c x ++ size_rule c (entry.Delegate x) E25 ∷ []) licensed).1.1.1.1.0)
 
 with_few : (links : List Link) (link : Option Link) → length (with_link links link) ≤ length links + 1
 with_few links None = omega arith

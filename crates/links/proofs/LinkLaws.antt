@@ -35,23 +35,26 @@ use Rattle.links.specs.declared.entry.Entry.{Entry}
 use Rattle.links.specs.declared.entry.Entry.TheVariants as entry
 use Rattle.links.specs.declared.entry.Exchange.{Exchange}
 use Rattle.links.specs.declared.entry.Narrowing.{Narrowing}
-use Rattle.links.specs.declared.fault.RuleCode.{RuleCode}
-use Rattle.links.specs.declared.fault.RuleCode.TheVariants.{E14, E15}
-use Rattle.links.specs.declared.source.Source.{Source}
-use Rattle.links.specs.Chain.{Link, Own, Chain, Narrowed, own_at, chains_of, chain_at}
+use Rattle.links.specs.declared.entry.Impersonation.{Impersonation}
+use Rattle.links.specs.declared.entry.Delegation.{Delegation}
+use Rattle.entry_rules.specs.declared.fault.RuleCode.{RuleCode}
+use Rattle.entry_rules.specs.declared.fault.RuleCode.TheVariants.{E14, E15, E25}
+use Rattle.subject_token.specs.declared.source.Source.{Source}
+use Rattle.links.specs.Chain.{Link, Own, Chain, Narrowed, Impersonated, Delegated, own_at, chains_of, chain_at}
 use Rattle.links.specs.Facts.{facts_of}
 use Rattle.links.specs.Issued.{issued_link, is_text_of}
-use Rattle.links.specs.Licence.{first_unlicensed, fault_of, exchange_rules, size_rule, Lawful, Licensed}
+use Rattle.entry_rules.specs.Passing.{fault_of}
+use Rattle.links.specs.Licence.{first_unlicensed, exchange_rules, size_rule, Lawful, Licensed}
 use Rattle.links.specs.Shown.{WasShown}
-use Rattle.links.specs.Sources.{claimed_by, opened, opened_by, outside_by, passed, source_by, source_of, source_of_claims, who_of_claims}
-use Rattle.links.specs.State.{Content, after, chain, content_of, federated_link, narrow_link, link_of, made, named, provider_enabled, source_at, start_of}
-use Rattle.links.specs.State.{state_after, token_text, with_link}
+use Rattle.subject_token.specs.Sources.{claimed_by, opened, opened_by, outside_by, passed, source_by, source_of, source_of_claims, who_of_claims}
+use Rattle.links.specs.State.{Content, after, chain, content_of, federated_link, narrow_link, impersonate_link, delegate_link}
+use Rattle.links.specs.State.{link_of, made, named, provider_enabled, source_at, start_of, state_after, token_text, with_link}
 use Rattle.links.proofs.Chains.{chain_stays}
 use Rattle.links.proofs.Issuing.{Tells, number_is, some-told}
 use Rattle.links.proofs.GoodLinks.{exact-good}
 use Rattle.links.proofs.Journals.{IsKept, follows, lawful_kept, good_of_chain, within_of_chain}
 use Rattle.links.proofs.Replays.{state_after-append}
-use Rattle.links.proofs.Sound.{all_pass, map_some}
+use Rattle.links.proofs.Sound.{all_pass, delegated_some, map_some}
 
 -- ---- the link of a token
 
@@ -84,14 +87,29 @@ issued_for config journal n found formed lawful few is =
     let links : length c.links ≤ 2 ^ 32 = omega (arith, few, (follows (start_of config) journal).few) in
     token_chain c n found (lawful_kept config journal formed lawful) links is
 
--- ---- a narrowing
+-- ---- links that go on from others
 
-pub goes_on : (c : Content) (x : Narrowing) (found : Chain) → made c (entry.Narrow x) ≡ Some found
+pub narrow_goes_on : (c : Content) (x : Narrowing) (found : Chain) → made c (entry.Narrow x) ≡ Some found
     → (o : Own) × (parent : Chain) × (chain c x.parent ≡ Some parent) × (found ≡ Narrowed o x.boundary parent)
-goes_on c x found is =
+narrow_goes_on c x found is =
     let o = own_at (length (chains_of c.links)) (narrow_link x) in
     let from = map_some (Narrowed o x.boundary) (chain c x.parent) found is in
     (o, from.0, from.1, sym from.2)
+
+pub impersonate_goes_on : (c : Content) (x : Impersonation) (found : Chain) → made c (entry.Impersonate x) ≡ Some found
+    → (o : Own) × (parent : Chain) × (chain c x.parent ≡ Some parent) × (found ≡ Impersonated o x.accounts x.lifetime parent)
+impersonate_goes_on c x found is =
+    let o = own_at (length (chains_of c.links)) (impersonate_link x) in
+    let from = map_some (Impersonated o x.accounts x.lifetime) (chain c x.parent) found is in
+    (o, from.0, from.1, sym from.2)
+
+pub delegate_goes_on : (c : Content) (x : Delegation) (found : Chain) → made c (entry.Delegate x) ≡ Some found
+    → (o : Own) × (subject : Chain) × (actor : Chain) × (chain c x.subject ≡ Some subject) × (chain c x.actor ≡ Some actor)
+    × (found ≡ Delegated o subject actor)
+delegate_goes_on c x found is =
+    let o = own_at (length (chains_of c.links)) (delegate_link x) in
+    let from = delegated_some o (chain c x.subject) (chain c x.actor) found is in
+    (o, from.0, from.1, from.2, from.3, sym from.4)
 
 -- ---- entries that follow
 
@@ -216,6 +234,6 @@ no_fault (Err rule) is = absurd (cc is)
 pub was_shown : (c : Content) (x : Exchange) → Licensed c (entry.Federated x) → WasShown c x
 unfolding first_unlicensed
 was_shown c x licensed =
-    let rules = all_pass (exchange_rules c x ++ size_rule c (entry.Federated x) ∷ []) licensed in
+    let rules = all_pass (exchange_rules c x ++ size_rule c (entry.Federated x) E25 ∷ []) licensed in
     let source = no_fault (source_at c x.provider x.token x.at) rules.1.0 in
     source_shown c x source.0 source.1

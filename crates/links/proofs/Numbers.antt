@@ -1,10 +1,11 @@
 -- What a link's own words and numbers are, by what is held of it.
 use Rattle.std.proofs.Common.{◌≡◌, ◌<◌, ℕ, true, List, [], ◌∷◌, ◌++◌, length, refl, ◌∙◌, ap, subst, arith}
-use Rattle.std.specs.Prelude.{Bool, Option, None, Some, is_some, option_map}
+use Rattle.std.specs.Prelude.{Option, None, Some, option_map}
 use Rattle.access_token.specs.Forms.{are_words}
+use Rattle.links.specs.declared.recorded.RecordedKind.{RecordedKind}
 use Rattle.links.specs.declared.recorded.RecordedKind.TheVariants as held
 use Rattle.links.specs.declared.recorded.RecordedLink.{RecordedLink}
-use Rattle.links.specs.Chain.{Chain, Root, Narrowed, own}
+use Rattle.links.specs.Chain.{Chain, Root, Narrowed, Impersonated, Delegated, own}
 use Rattle.links.specs.Facts.{numbers_of}
 use Rattle.links.specs.Recorded.{recorded, held_kind}
 use Rattle.links.specs.State.{Content, chain}
@@ -25,49 +26,84 @@ words_good c n words kept is = words_by c n (chain c n) words kept refl is
 
 -- ---- the numbers of the links that a link goes back to
 
--- link n was made from this one, and its numbers are this one's and its own
-pub record IsBehind (c : Content) (n parent : ℕ) : Type 0 where
-  pub below : parent < n
-  pub within : parent < length c.links
-  pub numbers : (ns : List ℕ) → option_map numbers_of (chain c parent) ≡ Some ns → option_map numbers_of (chain c n) ≡ Some (ns ++ n ∷ [])
+-- the number of the link that it goes on from, if there is one: its parent, or its subject
+abbrev pub from_kind : RecordedKind → Option ℕ
+from_kind (held.Federated exp) = None
+from_kind (held.Narrow parent bounded) = Some parent
+from_kind (held.Impersonate parent earlier lifetime) = Some parent
+from_kind (held.Delegate subject actor) = Some subject
 
-behind_by : (c : Content) (n : ℕ) (o : Option Chain) (row : RecordedLink) (parent : ℕ) (bounded : Bool) → IsKept c → chain c n ≡ o
-    → option_map recorded o ≡ Some row → row.kind ≡ held.Narrow parent bounded → IsBehind c n parent
-behind_by c n None row parent bounded kept there is kind = absurd (cc is)
-behind_by c n (Some (Root o source)) row parent bounded kept there is kind =
-    let same : recorded (Root o source) ≡ row = cc is in
-    let other : held.Federated source.exp ≡ held.Narrow parent bounded = ap (λ (r : RecordedLink). r.kind) same ∙ kind in
-    absurd (cc other)
-behind_by c n (Some (Narrowed o boundary from)) row parent bounded kept there is kind =
-    let same : recorded (Narrowed o boundary from) ≡ row = cc is in
-    let other : held_kind (Narrowed o boundary from) ≡ held.Narrow parent bounded = ap (λ (r : RecordedLink). r.kind) same ∙ kind in
-    let number : (own from).number ≡ parent = cc other in
-    let good = good_of_chain c n (Narrowed o boundary from) kept there in
-    let at : chain c parent ≡ Some from = subst (λ (k : ℕ). chain c k ≡ Some from) number (whole_of_chain c n (Narrowed o boundary from) kept there) in
-    let last : o.number ≡ n = good.number in
+-- link n goes on from this one, and its numbers are this one's and its own
+pub record IsBehind (c : Content) (n before : ℕ) : Type 0 where
+  pub below : before < n
+  pub within : before < length c.links
+  pub numbers : (ns : List ℕ) → option_map numbers_of (chain c before) ≡ Some ns → option_map numbers_of (chain c n) ≡ Some (ns ++ n ∷ [])
+
+-- a chain that goes on from another
+record GoesOn (c : Content) (found from : Chain) : Type 0 where
+  numbers : numbers_of found ≡ numbers_of from ++ (own found).number ∷ []
+  low : (own from).number < (own found).number
+  at : chain c (own from).number ≡ Some from
+
+goes_on_behind : (c : Content) (n before : ℕ) (found from : Chain) → IsKept c → chain c n ≡ Some found → GoesOn c found from
+    → (own from).number ≡ before → IsBehind c n before
+goes_on_behind c n before found from kept there on number =
+    let at : chain c before ≡ Some from = subst (λ (k : ℕ). chain c k ≡ Some from) number on.at in
+    let last : (own found).number ≡ n = (good_of_chain c n found kept there).number in
     record {
-      below = omega (arith, good.form.2, last, number);
-      within = within_of_chain c parent from at;
+      below = omega (arith, on.low, last, number);
+      within = within_of_chain c before from at;
       numbers = λ ns told.
           let first : numbers_of from ≡ ns = cc (told, at) in
-          ap (option_map numbers_of) there ∙ ap (λ (k : ℕ). Some (numbers_of from ++ k ∷ [])) last ∙ ap (λ (l : List ℕ). Some (l ++ n ∷ [])) first;
+          ap (option_map numbers_of) there ∙ ap (λ (l : List ℕ). Some l) on.numbers
+          ∙ ap (λ (k : ℕ). Some (numbers_of from ++ k ∷ [])) last ∙ ap (λ (l : List ℕ). Some (l ++ n ∷ [])) first;
     }
 
-pub is_behind : (c : Content) (n : ℕ) (row : RecordedLink) (parent : ℕ) (bounded : Bool) → IsKept c → option_map recorded (chain c n) ≡ Some row
-    → row.kind ≡ held.Narrow parent bounded → IsBehind c n parent
-is_behind c n row parent bounded kept is kind = behind_by c n (chain c n) row parent bounded kept refl is kind
+-- the kind by which a chain's row is held
+kind_is : (found : Chain) (row : RecordedLink) (before : Option ℕ) → option_map recorded (Some found) ≡ Some row → from_kind row.kind ≡ before
+    → from_kind (held_kind found) ≡ before
+kind_is found row before is kind =
+    let same : recorded found ≡ row = cc is in
+    ap (λ (r : RecordedLink). from_kind r.kind) same ∙ kind
 
-alone_by : (c : Content) (n : ℕ) (o : Option Chain) (row : RecordedLink) (exp : ℕ) → IsKept c → chain c n ≡ o → option_map recorded o ≡ Some row
-    → row.kind ≡ held.Federated exp
-    → option_map numbers_of o ≡ Some (n ∷ [])
-alone_by c n None row exp kept there is kind = absurd (cc is)
-alone_by c n (Some (Root o source)) row exp kept there is kind = ap (λ (k : ℕ). Some (k ∷ [])) (good_of_chain c n (Root o source) kept there).number
-alone_by c n (Some (Narrowed o boundary from)) row exp kept there is kind =
-    let same : recorded (Narrowed o boundary from) ≡ row = cc is in
-    let other : held.Narrow (own from).number (is_some boundary) ≡ held.Federated exp = ap (λ (r : RecordedLink). r.kind) same ∙ kind in
-    absurd (cc other)
+behind_of : (c : Content) (n before : ℕ) (found : Chain) → IsKept c → chain c n ≡ Some found → from_kind (held_kind found) ≡ Some before
+    → IsBehind c n before
+behind_of c n before (Root o source) kept there kind = absurd (cc kind)
+behind_of c n before (Narrowed o boundary parent) kept there kind =
+    let found = Narrowed o boundary parent in
+    goes_on_behind c n before found parent kept there
+    (record { numbers = refl; low = (good_of_chain c n found kept there).form.2; at = whole_of_chain c n found kept there }) (cc kind)
+behind_of c n before (Impersonated o accounts lifetime parent) kept there kind =
+    let found = Impersonated o accounts lifetime parent in
+    goes_on_behind c n before found parent kept there
+    (record { numbers = refl; low = (good_of_chain c n found kept there).form.3; at = whole_of_chain c n found kept there }) (cc kind)
+behind_of c n before (Delegated o subject actor) kept there kind =
+    let found = Delegated o subject actor in
+    goes_on_behind c n before found subject kept there
+    (record { numbers = refl; low = (good_of_chain c n found kept there).form.1; at = (whole_of_chain c n found kept there).0 }) (cc kind)
 
--- a link that was made from no other has its own number alone
-pub is_alone : (c : Content) (n : ℕ) (row : RecordedLink) (exp : ℕ) → IsKept c → option_map recorded (chain c n) ≡ Some row → row.kind ≡ held.Federated exp
+behind_by : (c : Content) (n before : ℕ) (o : Option Chain) (row : RecordedLink) → IsKept c → chain c n ≡ o → option_map recorded o ≡ Some row
+    → from_kind row.kind ≡ Some before → IsBehind c n before
+behind_by c n before None row kept there is kind = absurd (cc is)
+behind_by c n before (Some found) row kept there is kind = behind_of c n before found kept there (kind_is found row (Some before) is kind)
+
+pub is_behind : (c : Content) (n : ℕ) (row : RecordedLink) (before : ℕ) → IsKept c → option_map recorded (chain c n) ≡ Some row
+    → from_kind row.kind ≡ Some before → IsBehind c n before
+is_behind c n row before kept is kind = behind_by c n before (chain c n) row kept refl is kind
+
+alone_of : (c : Content) (n : ℕ) (found : Chain) → IsKept c → chain c n ≡ Some found → from_kind (held_kind found) ≡ None
+    → numbers_of found ≡ n ∷ []
+alone_of c n (Root o source) kept there kind = ap (λ (k : ℕ). k ∷ []) (good_of_chain c n (Root o source) kept there).number
+alone_of c n (Narrowed o boundary parent) kept there kind = absurd (cc kind)
+alone_of c n (Impersonated o accounts lifetime parent) kept there kind = absurd (cc kind)
+alone_of c n (Delegated o subject actor) kept there kind = absurd (cc kind)
+
+alone_by : (c : Content) (n : ℕ) (o : Option Chain) (row : RecordedLink) → IsKept c → chain c n ≡ o → option_map recorded o ≡ Some row
+    → from_kind row.kind ≡ None → option_map numbers_of o ≡ Some (n ∷ [])
+alone_by c n None row kept there is kind = absurd (cc is)
+alone_by c n (Some found) row kept there is kind = ap (λ (l : List ℕ). Some l) (alone_of c n found kept there (kind_is found row None is kind))
+
+-- a link that goes on from no other has its own number alone
+pub is_alone : (c : Content) (n : ℕ) (row : RecordedLink) → IsKept c → option_map recorded (chain c n) ≡ Some row → from_kind row.kind ≡ None
     → option_map numbers_of (chain c n) ≡ Some (n ∷ [])
-is_alone c n row exp kept is kind = alone_by c n (chain c n) row exp kept refl is kind
+is_alone c n row kept is kind = alone_by c n (chain c n) row kept refl is kind

@@ -1,10 +1,9 @@
 -- The steps of an entry's preparing are its licence and what its recording gives.
-use Rattle.std.proofs.Common.{◌≡◌, ℕ, List, [], ◌∷◌, ◌++◌, length, Bool, refl, sym, ◌∙◌, ap, subst}
-use Rattle.std.specs.Prelude.{Option, None, Some, Result, Ok, Err, IfOk, IfErr, option_map, nat_lt}
+use Rattle.std.proofs.Common.{◌≡◌, ◌+◌, ℕ, List, [], ◌∷◌, ◌++◌, length, Bool, refl, sym, ◌∙◌, ap, subst}
+use Rattle.std.specs.Prelude.{Option, None, Some, Result, Ok, Err, IfOk, IfErr, option_map, nat_lt, max}
 use Rattle.std.specs.Result.{result_ok}
 use Rattle.std.specs.List.{AllByRecursion}
 use Rattle.base_types.specs.Rules.{fails_if, first_of}
-use Rattle.base_types.specs.Steps.{◌>>=◌}
 use Rattle.hmac_jws.specs.Compact.{compact}
 use Rattle.access_token.specs.Payload.{payload_text}
 use Rattle.boundary.specs.Exact.{IsExactBoundary}
@@ -18,34 +17,30 @@ use Rattle.links.specs.declared.entry.Entry.{Entry}
 use Rattle.links.specs.declared.entry.Entry.TheVariants as entry
 use Rattle.links.specs.declared.entry.Exchange.{Exchange}
 use Rattle.links.specs.declared.entry.Narrowing.{Narrowing}
-use Rattle.links.specs.declared.fault.ApplyFault.{ApplyFault}
-use Rattle.links.specs.declared.fault.ApplyFault.TheVariants.{Unlicensed, Memory}
-use Rattle.links.specs.declared.fault.RuleCode.{RuleCode}
-use Rattle.links.specs.declared.fault.RuleCode.TheVariants.{E25}
+use Rattle.links.specs.declared.entry.Impersonation.{Impersonation}
+use Rattle.links.specs.declared.entry.Delegation.{Delegation}
+use Rattle.entry_rules.specs.declared.fault.ApplyFault.{ApplyFault}
+use Rattle.entry_rules.specs.declared.fault.ApplyFault.TheVariants.{Unlicensed, Memory}
+use Rattle.entry_rules.specs.declared.fault.RuleCode.{RuleCode}
+use Rattle.entry_rules.specs.declared.fault.RuleCode.TheVariants.{E25, I11}
 use Rattle.links.specs.declared.tokens.Issued.{Issued}
 use Rattle.links.specs.declared.prepared.Plan.TheVariants as plan
 use Rattle.links.specs.declared.recorded.RecordedLink.{RecordedLink}
-use Rattle.links.specs.declared.source.Source.{Source}
-use Rattle.links.specs.Chain.{Chain, Root, Narrowed, own, own_at, chains_of}
+use Rattle.subject_token.specs.declared.source.Source.{Source}
+use Rattle.links.specs.Chain.{Chain, Root, Narrowed, Impersonated, Delegated, Own, own, own_at, chains_of, delegated as joined_with}
 use Rattle.links.specs.Facts.{facts_of}
-use Rattle.links.specs.Licence.{first_unlicensed, fault_of, exchange_rules, narrow_rules, size_rule, is_long, rule_of, refusal_of, prepared_of, Licensed}
-use Rattle.links.specs.Licence.{Passes, Refuses}
+use Rattle.entry_rules.specs.Passing.{Passes, Refuses}
+use Rattle.links.specs.Licence.{first_unlicensed, exchange_rules, narrow_rules, impersonation_rules, delegation_rules}
+use Rattle.links.specs.Licence.{size_rule, is_deep, is_long, begins_with_name, may_be_acted_for, rule_of, refusal_of, prepared_of, Licensed}
 use Rattle.links.specs.Prepared.{PreparedEntry, planned, with_link}
-use Rattle.links.specs.Recorded.{recorded, narrowed}
-use Rattle.links.specs.State.{Content, chain, link_of, made, made_by, source_at, federated_link, narrow_link, token_text}
+use Rattle.links.specs.Recorded.{recorded, narrowed, impersonated, delegated}
+use Rattle.links.specs.State.{Content, chain, link_of, made, made_by, source_at, federated_link, narrow_link, impersonate_link, delegate_link, token_text}
 use Rattle.links.proofs.Chains.{length-chains_of}
 use Rattle.links.proofs.Good.{IsGoodChain}
 use Rattle.links.proofs.GoodLinks.{bounds_exact}
 use Rattle.links.proofs.Journals.{IsKept, good_of_chain}
 
 -- ---- rules, one after another
-
--- a step that refuses, refuses all that goes on from it
-pub refuses_on : {X Y : Type 0} (r : Result X RuleCode) (next : X → Result Y RuleCode) (fault : ApplyFault) → Refuses fault (fault_of r)
-    → Refuses fault (fault_of (r >>= next))
-refuses_on (Ok x) next (Unlicensed rule) h = absurd (cc h)
-refuses_on (Ok x) next Memory h = tt
-refuses_on (Err rule) next fault h = h
 
 -- the first rule that fails is the first of more
 refuses_early : (rules : List (Option RuleCode)) (last : Option RuleCode) (fault : ApplyFault) → Refuses fault (first_of rules)
@@ -73,7 +68,7 @@ passes_but_memory (Err fault) failed none memory = subst (λ (f : ApplyFault). R
 abbrev next_root : Content → Exchange → Source → Chain
 next_root c x source = Root (record { number = length c.links; at = x.at; words = x.scope }) source
 
-pub made_source : (c : Content) (x : Exchange) (source : Source) → source_at c x.provider x.token x.at ≡ Ok source
+made_source : (c : Content) (x : Exchange) (source : Source) → source_at c x.provider x.token x.at ≡ Ok source
     → made c (entry.Federated x) ≡ Some (next_root c x source)
 made_source c x source is =
     let link : link_of c (entry.Federated x) ≡ Some (federated_link x.scope x.at source) =
@@ -88,29 +83,98 @@ held_source c x source (Ok link) is held =
     ap (λ (l : RecordedLink). Some l) held ∙ ap (λ (o : Option Chain). option_map recorded o) (sym (made_source c x source is))
 held_source c x source (Err fault) is held = tt
 
--- the chain of a narrowing goes on from its parent's
-made_behind : (c : Content) (x : Narrowing) (o : Option Chain) (row : RecordedLink) → option_map recorded o ≡ Some row
-    → ((parent : Chain) → o ≡ Some parent → (own parent).number ≡ x.parent)
-    → option_map recorded (option_map (Narrowed (own_at (length (chains_of c.links)) (narrow_link x)) x.boundary) o) ≡ Some (narrowed (length c.links) x row)
+-- ---- the chain of a link behind others
+
+-- what is held of the next link, where it is made from what is held of one before it
+behind_one : (o : Option Chain) (row : RecordedLink) (next : Chain → Chain) (next_row : RecordedLink → RecordedLink)
+    → option_map recorded o ≡ Some row
+    → ((parent : Chain) → o ≡ Some parent → recorded (next parent) ≡ next_row (recorded parent))
+    → option_map recorded (option_map next o) ≡ Some (next_row row)
+behind_one None row next next_row is same = absurd (cc is)
+behind_one (Some parent) row next next_row is same =
+    let here : recorded parent ≡ row = cc is in
+    ap (λ (r : RecordedLink). Some r) (same parent refl ∙ ap next_row here)
+
+-- the same of two before it
+behind_two : (o : Own) (from with : Option Chain) (row other : RecordedLink) (next_row : RecordedLink → RecordedLink → RecordedLink)
+    → option_map recorded from ≡ Some row → option_map recorded with ≡ Some other
+    → ((subject actor : Chain) → from ≡ Some subject → with ≡ Some actor
+    → recorded (Delegated o subject actor) ≡ next_row (recorded subject) (recorded actor))
+    → option_map recorded (joined_with o from with) ≡ Some (next_row row other)
+behind_two o None with row other next_row is also same = absurd (cc is)
+behind_two o (Some subject) None row other next_row is also same = absurd (cc also)
+behind_two o (Some subject) (Some actor) row other next_row is also same =
+    let here : recorded subject ≡ row = cc is in
+    let there : recorded actor ≡ other = cc also in
+    ap (λ (r : RecordedLink). Some r) (same subject actor refl refl ∙ cc (here, there))
+
+-- each kind's row is that of its chain
+next_narrowed : (c : Content) (x : Narrowing) (parent : Chain) → (own parent).number ≡ x.parent
+    → recorded (Narrowed (own_at (length (chains_of c.links)) (narrow_link x)) x.boundary parent) ≡ narrowed (length c.links) x (recorded parent)
 unfolding facts_of
-made_behind c x None row is number = absurd (cc is)
-made_behind c x (Some parent) row is number =
-    let same : recorded parent ≡ row = cc is in
-    let o = own_at (length (chains_of c.links)) (narrow_link x) in
-    subst (λ (r : RecordedLink). option_map recorded (Some (Narrowed o x.boundary parent)) ≡ Some (narrowed (length c.links) x r)) same
-    (rw (length-chains_of c.links, number parent refl) refl)
+next_narrowed c x parent number = rw (length-chains_of c.links, number) refl
 
--- what is held of it is made from what is held of its parent
-pub held_behind : (c : Content) (x : Narrowing) (row : RecordedLink) → IsKept c → option_map recorded (chain c x.parent) ≡ Some row
+next_impersonated : (c : Content) (x : Impersonation) (parent : Chain) → (own parent).number ≡ x.parent
+    → recorded (Impersonated (own_at (length (chains_of c.links)) (impersonate_link x)) x.accounts x.lifetime parent)
+    ≡ impersonated (length c.links) x (recorded parent)
+unfolding facts_of
+next_impersonated c x parent number = rw (length-chains_of c.links, number) refl
+
+next_delegated : (c : Content) (x : Delegation) (subject actor : Chain) → (own subject).number ≡ x.subject → (own actor).number ≡ x.actor
+    → recorded (Delegated (own_at (length (chains_of c.links)) (delegate_link x)) subject actor)
+    ≡ delegated (length c.links) x (recorded subject) (recorded actor)
+unfolding facts_of
+next_delegated c x subject actor number other = rw (length-chains_of c.links, number, other) refl
+
+-- what is held of a narrowing's link is made from what is held of its parent
+pub held_narrowing : (c : Content) (x : Narrowing) (row : RecordedLink) → IsKept c → option_map recorded (chain c x.parent) ≡ Some row
     → option_map recorded (made c (entry.Narrow x)) ≡ Some (narrowed (length c.links) x row)
-held_behind c x row kept is = made_behind c x (chain c x.parent) row is (λ parent there. (good_of_chain c x.parent parent kept there).number)
+held_narrowing c x row kept is = behind_one (chain c x.parent) row (Narrowed _ x.boundary) (narrowed (length c.links) x) is
+    (λ parent there. next_narrowed c x parent (good_of_chain c x.parent parent kept there).number)
 
-pub held_narrowing : (c : Content) (x : Narrowing) (row : RecordedLink) (r : Result RecordedLink ApplyFault) → IsKept c
-    → option_map recorded (chain c x.parent) ≡ Some row
-    → IfOk r (λ (link : RecordedLink). link ≡ narrowed (length c.links) x row)
-    → IfOk r (λ (link : RecordedLink). Some link ≡ option_map recorded (made c (entry.Narrow x)))
-held_narrowing c x row (Ok link) kept is held = ap (λ (l : RecordedLink). Some l) held ∙ sym (held_behind c x row kept is)
-held_narrowing c x row (Err fault) kept is held = tt
+-- the same of an impersonation
+pub held_impersonation : (c : Content) (x : Impersonation) (row : RecordedLink) → IsKept c → option_map recorded (chain c x.parent) ≡ Some row
+    → option_map recorded (made c (entry.Impersonate x)) ≡ Some (impersonated (length c.links) x row)
+held_impersonation c x row kept is = behind_one (chain c x.parent) row (Impersonated _ x.accounts x.lifetime) (impersonated (length c.links) x) is
+    (λ parent there. next_impersonated c x parent (good_of_chain c x.parent parent kept there).number)
+
+-- and of a delegation, from what is held of its subject and its actor
+pub held_delegation : (c : Content) (x : Delegation) (row other : RecordedLink) → IsKept c → option_map recorded (chain c x.subject) ≡ Some row
+    → option_map recorded (chain c x.actor) ≡ Some other
+    → option_map recorded (made c (entry.Delegate x)) ≡ Some (delegated (length c.links) x row other)
+held_delegation c x row other kept is also = behind_two _ (chain c x.subject) (chain c x.actor) row other (delegated (length c.links) x) is also
+    (λ subject actor there beside. next_delegated c x subject actor (good_of_chain c x.subject subject kept there).number
+    (good_of_chain c x.actor actor kept beside).number)
+
+-- the row that is made, where there is memory
+pub held_row : (number : ℕ) (next : ℕ → RecordedLink) (c : Content) (e : Entry) (r : Result RecordedLink ApplyFault) → number ≡ length c.links
+    → option_map recorded (made c e) ≡ Some (next (length c.links)) → IfOk r (λ (link : RecordedLink). link ≡ next number)
+    → IfOk r (λ (link : RecordedLink). Some link ≡ option_map recorded (made c e))
+held_row number next c e (Ok link) count is held = ap (λ (l : RecordedLink). Some l) (held ∙ ap next count) ∙ sym is
+held_row number next c e (Err fault) count is held = tt
+
+-- whether the chain of a delegation is too long, by what is held of its subject and its actor
+pub held_deep : (o : Own) (from with : Option Chain) (row other : RecordedLink) → option_map recorded from ≡ Some row → option_map recorded with ≡ Some other
+    → is_deep (joined_with o from with) ≡ nat_lt 8 (max row.depth other.depth + 1)
+held_deep o None with row other is also = absurd (cc is)
+held_deep o (Some subject) None row other is also = absurd (cc also)
+held_deep o (Some subject) (Some actor) row other is also =
+    let here : recorded subject ≡ row = cc is in
+    let there : recorded actor ≡ other = cc also in
+    ap (λ (r : RecordedLink). nat_lt 8 (max r.depth (recorded actor).depth + 1)) here
+    ∙ ap (λ (r : RecordedLink). nat_lt 8 (max row.depth r.depth + 1)) there
+
+-- whether the subject names the actor, by what is held of both
+pub held_named : (from with : Option Chain) (row other : RecordedLink) → option_map recorded from ≡ Some row → option_map recorded with ≡ Some other
+    → may_be_acted_for from with ≡ begins_with_name other.facts.sub row.facts.may_act
+unfolding facts_of
+held_named None with row other is also = absurd (cc is)
+held_named (Some subject) None row other is also = absurd (cc also)
+held_named (Some subject) (Some actor) row other is also =
+    let here : recorded subject ≡ row = cc is in
+    let there : recorded actor ≡ other = cc also in
+    ap (λ (r : RecordedLink). begins_with_name r.facts.sub (recorded subject).facts.may_act) there
+    ∙ ap (λ (r : RecordedLink). begins_with_name other.facts.sub r.facts.may_act) here
 
 bounds_by : (o : Option Chain) (row : RecordedLink) → option_map recorded o ≡ Some row → ((found : Chain) → o ≡ Some found → IsGoodChain found)
     → AllByRecursion IsExactBoundary row.facts.bounds
@@ -144,6 +208,7 @@ unfolding token_text
 told c e None link is = absurd (cc is)
 told c e (Some found) link is = let same : link ≡ recorded found = cc is in rw same refl
 
+-- the link with its token is what is prepared
 pub issued_is : (c : Content) (e : Entry) (link : RecordedLink) (r : Result Issued ApplyFault) → Some link ≡ option_map recorded (made c e)
     → IfOk r (λ (issued : Issued). issued ≡ made_up c link) → IfOk r (λ (issued : Issued). with_link e issued ≡ prepared_of c e)
 issued_is c e link (Ok issued) is up = ap (λ (i : Issued). with_link e i) up ∙ told c e (made c e) link is
@@ -156,34 +221,34 @@ long c None link is = absurd (cc is)
 long c (Some found) link is = let same : link ≡ recorded found = cc is in rw same refl
 
 -- the token's size is looked at last
-size_last : {X : Type 0} (c : Content) (e : Entry) (rules : List (Option RuleCode)) (link : RecordedLink) (r : Result X ApplyFault)
+pub size_last : {X : Type 0} (c : Content) (e : Entry) (rules : List (Option RuleCode)) (code : RuleCode) (link : RecordedLink) (r : Result X ApplyFault)
     → Some link ≡ option_map recorded (made c e)
-    → first_of rules ≡ None → Passes r (fails_if (nat_lt 8192 (length (text_of c link))) E25) → Passes r (first_of (rules ++ size_rule c e ∷ []))
-size_last c e rules link r is none size =
-    let same : size_rule c e ≡ fails_if (nat_lt 8192 (length (text_of c link))) E25 = ap (λ (b : Bool). fails_if b E25) (long c (made c e) link is) in
-    subst (λ (failed : Option RuleCode). Passes r failed) (sym (last_rule rules (size_rule c e) none ∙ same)) size
+    → first_of rules ≡ None → Passes r (fails_if (nat_lt 8192 (length (text_of c link))) code) → Passes r (first_of (rules ++ size_rule c e code ∷ []))
+size_last c e rules code link r is none size =
+    let same : size_rule c e code ≡ fails_if (nat_lt 8192 (length (text_of c link))) code =
+    ap (λ (b : Bool). fails_if b code) (long c (made c e) link is) in
+    subst (λ (failed : Option RuleCode). Passes r failed) (sym (last_rule rules (size_rule c e code) none ∙ same)) size
 
-pub exchange_size_last : {X : Type 0} (c : Content) (x : Exchange) (link : RecordedLink) (r : Result X ApplyFault)
-    → Some link ≡ option_map recorded (made c (entry.Federated x))
-    → first_of (exchange_rules c x) ≡ None → Passes r (fails_if (nat_lt 8192 (length (text_of c link))) E25) → Passes r (first_unlicensed c (entry.Federated x))
-unfolding first_unlicensed
-exchange_size_last c x link r is none size = size_last c (entry.Federated x) (exchange_rules c x) link r is none size
-
-pub narrow_size_last : {X : Type 0} (c : Content) (x : Narrowing) (link : RecordedLink) (r : Result X ApplyFault)
-    → Some link ≡ option_map recorded (made c (entry.Narrow x))
-    → first_of (narrow_rules c x) ≡ None → Passes r (fails_if (nat_lt 8192 (length (text_of c link))) E25) → Passes r (first_unlicensed c (entry.Narrow x))
-unfolding first_unlicensed
-narrow_size_last c x link r is none size = size_last c (entry.Narrow x) (narrow_rules c x) link r is none size
-
-pub refused_before : (c : Content) (x : Exchange) (fault : ApplyFault) → Refuses fault (first_of (exchange_rules c x))
+-- what fails a rule before it, fails the first rule of all
+pub exchange_refused_before : (c : Content) (x : Exchange) (fault : ApplyFault) → Refuses fault (first_of (exchange_rules c x))
     → Refuses fault (first_unlicensed c (entry.Federated x))
 unfolding first_unlicensed
-refused_before c x fault h = refuses_early (exchange_rules c x) (size_rule c (entry.Federated x)) fault h
+exchange_refused_before c x fault h = refuses_early (exchange_rules c x) (size_rule c (entry.Federated x) E25) fault h
 
 pub narrow_refused_before : (c : Content) (x : Narrowing) (fault : ApplyFault) → Refuses fault (first_of (narrow_rules c x))
     → Refuses fault (first_unlicensed c (entry.Narrow x))
 unfolding first_unlicensed
-narrow_refused_before c x fault h = refuses_early (narrow_rules c x) (size_rule c (entry.Narrow x)) fault h
+narrow_refused_before c x fault h = refuses_early (narrow_rules c x) (size_rule c (entry.Narrow x) E25) fault h
+
+pub impersonation_refused_before : (c : Content) (x : Impersonation) (fault : ApplyFault) → Refuses fault (first_of (impersonation_rules c x))
+    → Refuses fault (first_unlicensed c (entry.Impersonate x))
+unfolding first_unlicensed
+impersonation_refused_before c x fault h = refuses_early (impersonation_rules c x) (size_rule c (entry.Impersonate x) I11) fault h
+
+pub delegation_refused_before : (c : Content) (x : Delegation) (fault : ApplyFault) → Refuses fault (first_of (delegation_rules c x))
+    → Refuses fault (first_unlicensed c (entry.Delegate x))
+unfolding first_unlicensed
+delegation_refused_before c x fault h = refuses_early (delegation_rules c x) (size_rule c (entry.Delegate x) E25) fault h
 
 -- ---- commands
 

@@ -1,13 +1,15 @@
 -- Where the chains are of their forms, so is that of the next link.
 use Rattle.std.proofs.Common.{◌≡◌, ◌+◌, ◌<◌, ◌≤◌, ℕ, zero, suc, Bool, true, false, List, [], ◌∷◌, ◌++◌, length, refl, sym, ◌∙◌, ap, subst, arith, ◌⊎◌, inl, inr}
 use Rattle.std.specs.Prelude.{⊤, Option, None, Some, IfSome, option_map}
-use Rattle.std.specs.List.{AllByRecursion}
+use Rattle.std.specs.List.{AllByRecursion, list_all}
 use Rattle.std.proofs.lemmas.Bool.{ltb-false}
 use Rattle.base_types.specs.Rules.{fails_if, first_of}
 use Rattle.boundary.specs.declared.rules.Boundary.{Boundary}
 use Rattle.boundary.specs.Exact.{IsExactBoundary}
-use Rattle.links.specs.declared.source.Source.{Source}
-use Rattle.links.specs.Chain.{Kind, Federated, Narrow, Link, Own, Chain, Root, Narrowed, own, own_at, chains_of, next_chain, chain_of_kind, chain_at}
+use Rattle.iam_names.specs.Forms.{is_account}
+use Rattle.subject_token.specs.declared.source.Source.{Source}
+use Rattle.links.specs.Chain.{Kind, Federated, Narrow, Impersonate, Delegate, Link, Own, Chain, Root, Narrowed, Impersonated, Delegated, own, own_at}
+use Rattle.links.specs.Chain.{chains_of, next_chain, chain_of_kind, chain_at, delegated}
 use Rattle.links.specs.Facts.{depth_of}
 use Rattle.links.specs.Licence.{is_deep}
 use Rattle.links.specs.State.{with_link}
@@ -67,6 +69,13 @@ pub map_some : {A B : Type 0} (f : A → B) (o : Option A) (y : B) → option_ma
 map_some f None y is = absurd (cc is)
 map_some f (Some x) y is = (x, refl, cc is)
 
+-- where a subject with an actor is a chain, both are there
+pub delegated_some : (o : Own) (subject actor : Option Chain) (chain : Chain) → delegated o subject actor ≡ Some chain
+    → (s : Chain) × (a : Chain) × (subject ≡ Some s) × (actor ≡ Some a) × (Delegated o s a ≡ chain)
+delegated_some o None actor chain is = absurd (cc is)
+delegated_some o (Some s) None chain is = absurd (cc is)
+delegated_some o (Some s) (Some a) chain is = (s, a, refl, refl, cc is)
+
 -- it is a chain that has its form behind the others
 pub record Joins (chains : List (Option Chain)) (x : Option Chain) : Type 0 where
   pub chain : Chain
@@ -104,10 +113,53 @@ narrow_joins chains o parent boundary all next bound deep =
       };
     }
 
+pub impersonate_joins : (chains : List (Option Chain)) (o : Own) (parent : ℕ) (accounts : List (List ℕ)) (lifetime : ℕ) → AreGood 0 chains
+    → IsNext chains o → 1 ≤ length accounts → list_all is_account accounts ≡ true
+    → is_deep (chain_of_kind o chains (Impersonate parent accounts lifetime)) ≡ false
+    → Joins chains (chain_of_kind o chains (Impersonate parent accounts lifetime))
+impersonate_joins chains o parent accounts lifetime all next some formed deep =
+    let there = not_deep (chain_of_kind o chains (Impersonate parent accounts lifetime)) deep in
+    let from = map_some (Impersonated o accounts lifetime) (chain_at chains parent) there.0 there.1 in
+    let good = good_at chains parent from.0 all from.1 in
+    let low : (own from.0).number < o.number = omega (arith, good.number, chain_within chains parent from.0 from.1, next.number) in
+    record {
+      chain = there.0;
+      is = there.1;
+      good = record {
+        number = sym (ap (λ (c : Chain). (own c).number) from.2) ∙ next.number;
+        deep = there.2;
+        form = subst IsGoodChain from.2 (next.form, some, formed, low, good.form);
+      };
+    }
+
+pub delegate_joins : (chains : List (Option Chain)) (o : Own) (subject actor : ℕ) → AreGood 0 chains → IsNext chains o
+    → is_deep (chain_of_kind o chains (Delegate subject actor)) ≡ false → Joins chains (chain_of_kind o chains (Delegate subject actor))
+delegate_joins chains o subject actor all next deep =
+    let there = not_deep (chain_of_kind o chains (Delegate subject actor)) deep in
+    let from = delegated_some o (chain_at chains subject) (chain_at chains actor) there.0 there.1 in
+    let first = good_at chains subject from.0 all from.2 in
+    let second = good_at chains actor from.1 all from.3 in
+    let first_low : (own from.0).number < o.number = omega (arith, first.number, chain_within chains subject from.0 from.2, next.number) in
+    let second_low : (own from.1).number < o.number = omega (arith, second.number, chain_within chains actor from.1 from.3, next.number) in
+    record {
+      chain = there.0;
+      is = there.1;
+      good = record {
+        number = sym (ap (λ (c : Chain). (own c).number) from.4) ∙ next.number;
+        deep = there.2;
+        form = subst IsGoodChain from.4 (next.form, first_low, second_low, first.form, second.form);
+      };
+    }
+
 -- no link, or one that joins
 abbrev pub JoinsAll : List (Option Chain) → Option Link → Type 0
 JoinsAll chains None = ⊤
 JoinsAll chains (Some link) = Joins chains (next_chain chains link)
+
+-- the chain of a number stands at its own number
+own_place : (chains : List (Option Chain)) (n : ℕ) (chain : Chain) → AreGood 0 chains → chain_at chains n ≡ Some chain
+    → chain_at chains (own chain).number ≡ Some chain
+own_place chains n chain all is = subst (λ (k : ℕ). chain_at chains k ≡ Some chain) (sym (good_at chains n chain all is).number) is
 
 whole_next : (chains : List (Option Chain)) (o : Own) (kind : Kind) (chain : Chain) → AreGood 0 chains → chain_of_kind o chains kind ≡ Some chain
     → IsWhole chains chain
@@ -116,12 +168,20 @@ whole_next chains o (Federated source) chain all is =
     subst (IsWhole chains) same tt
 whole_next chains o (Narrow parent boundary) chain all is =
     let from = map_some (Narrowed o boundary) (chain_at chains parent) chain is in
-    let number : parent ≡ (own from.0).number = sym (good_at chains parent from.0 all from.1).number in
-    subst (IsWhole chains) from.2 (subst (λ (n : ℕ). chain_at chains n ≡ Some from.0) number from.1)
+    subst (IsWhole chains) from.2 (own_place chains parent from.0 all from.1)
+whole_next chains o (Impersonate parent accounts lifetime) chain all is =
+    let from = map_some (Impersonated o accounts lifetime) (chain_at chains parent) chain is in
+    subst (IsWhole chains) from.2 (own_place chains parent from.0 all from.1)
+whole_next chains o (Delegate subject actor) chain all is =
+    let from = delegated_some o (chain_at chains subject) (chain_at chains actor) chain is in
+    subst (IsWhole chains) from.4 (own_place chains subject from.0 all from.2, own_place chains actor from.1 all from.3)
 
 whole_more : (chains more : List (Option Chain)) (chain : Chain) → IsWhole chains chain → IsWhole (chains ++ more) chain
 whole_more chains more (Root o source) is = tt
 whole_more chains more (Narrowed o boundary parent) is = chain_at-more chains more (own parent).number parent is
+whole_more chains more (Impersonated o accounts lifetime parent) is = chain_at-more chains more (own parent).number parent is
+whole_more chains more (Delegated o subject actor) is =
+    (chain_at-more chains more (own subject).number subject is.0, chain_at-more chains more (own actor).number actor is.1)
 
 chain_either : (chains : List (Option Chain)) (x : Option Chain) (n : ℕ) (chain : Chain) → chain_at (chains ++ x ∷ []) n ≡ Some chain
     → (chain_at chains n ≡ Some chain) ⊎ (x ≡ Some chain)

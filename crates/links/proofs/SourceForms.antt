@@ -1,5 +1,6 @@
 -- What a subject token gives under a provider has its forms.
-use Rattle.std.proofs.Common.{◌≡◌, ℕ, Bool, true, false, ◌&&◌, nat_lt, List, [], ◌∷◌, length, map, Result, Ok, Err, IfOk, refl, sym, ap, subst, ◌∙◌, arith, nat_cmp}
+use Rattle.std.proofs.Common.{◌≡◌, ℕ, Bool, true, false, ◌&&◌, nat_lt, List, [], ◌∷◌, length, map, refl, sym, ap, subst, ◌∙◌, arith}
+use Rattle.std.proofs.Common.{Result, Ok, Err, IfOk, nat_cmp}
 use Rattle.std.specs.Cmp.Lexicographic.{slice_cmp}
 use Rattle.std.specs.List.{AllByRecursion, list_all}
 use Rattle.std.specs.List.Sorted.{IsStrictlySortedBy}
@@ -27,9 +28,9 @@ use Rattle.pools.proofs.AdmittedClaims.{rules-passed}
 use Rattle.pools.proofs.MappedParts.{admitted_parts}
 use Rattle.access_token.specs.Exact.{IsExactWho}
 use Rattle.access_token.specs.Forms.{is_attribute, is_who}
-use Rattle.links.specs.declared.fault.RuleCode.{RuleCode}
-use Rattle.links.specs.declared.source.Source.{Source}
-use Rattle.links.specs.Sources.{opened, claimed_by, outside_by, who_of_claims, source_by, source_of_claims, source_of}
+use Rattle.entry_rules.specs.declared.fault.RuleCode.{RuleCode}
+use Rattle.subject_token.specs.declared.source.Source.{Source}
+use Rattle.subject_token.specs.Sources.{opened, claimed_by, outside_by, who_of_claims, source_by, source_of_claims, source_of}
 use Rattle.links.proofs.Good.{IsGoodSource}
 use Rattle.links.proofs.GoodLinks.{all_ascii, pool_exact}
 
@@ -56,7 +57,8 @@ names_formed : (attributes : List (List ℕ × List ℕ)) (rows : List (List ℕ
 names_formed attributes rows same all =
     sym (all_mapped (λ a. a.0) is_attribute_name attributes) ∙ ap (list_all is_attribute_name) same ∙ all_mapped (λ row. row.0) is_attribute_name rows ∙ all
 
-attributes_formed : (attributes : List (List ℕ × List ℕ)) → list_all (λ a. is_attribute_name a.0) attributes ≡ true → AllByRecursion (λ a. HasSize 1 256 a.1) attributes
+attributes_formed : (attributes : List (List ℕ × List ℕ)) → list_all (λ a. is_attribute_name a.0) attributes ≡ true
+    → AllByRecursion (λ a. HasSize 1 256 a.1) attributes
     → list_all is_attribute attributes ≡ true
 attributes_formed [] names sizes = refl
 attributes_formed (a ∷ attributes) names sizes =
@@ -101,7 +103,8 @@ who_good provider claims now identity formed is =
 
 -- ---- what the claims give
 
-after_step : {X Y : Type 0} (Q : X → Type 0) (P : Y → Type 0) (r : Result X RuleCode) (next : X → Result Y RuleCode) → IfOk r Q → ((x : X) → Q x → IfOk (next x) P) → IfOk (r >>= next) P
+after_step : {X Y : Type 0} (Q : X → Type 0) (P : Y → Type 0) (r : Result X RuleCode) (next : X → Result Y RuleCode) → IfOk r Q
+    → ((x : X) → Q x → IfOk (next x) P) → IfOk (r >>= next) P
 after_step Q P (Ok x) next q each = each x q
 after_step Q P (Err rule) next q each = tt
 
@@ -109,7 +112,8 @@ claimed : (r : Result Claims ClaimFault) → IfOk r AreFormed → IfOk (claimed_
 claimed (Ok claims) h = h
 claimed (Err fault) h = tt
 
-outside_good : (provider : ProviderView) (r : Result Identity MapFault) → ((identity : Identity) → r ≡ Ok identity → IsGoodWho (Outside provider.name.pool identity))
+outside_good : (provider : ProviderView) (r : Result Identity MapFault)
+    → ((identity : Identity) → r ≡ Ok identity → IsGoodWho (Outside provider.name.pool identity))
     → IfOk (outside_by provider r) IsGoodWho
 outside_good provider (Ok identity) good = good identity refl
 outside_good provider (Err fault) good = tt
@@ -126,10 +130,12 @@ source_good claims who are is = record {
   may_act = and_from _ _ (le-leb (length claims.may_act) 8 are.forms.may_act) are.sizes;
 }
 
-claims_source : (provider : ProviderView) (claims : Claims) (now : ℕ) → IsFormed provider → AreFormed claims → IfOk (source_of_claims provider claims now) IsGoodSource
+claims_source : (provider : ProviderView) (claims : Claims) (now : ℕ) → IsFormed provider → AreFormed claims
+    → IfOk (source_of_claims provider claims now) IsGoodSource
 unfolding source_of_claims
 claims_source provider claims now formed are =
-    after_step IsGoodWho IsGoodSource (who_of_claims provider claims now) (λ who. Ok (source_by claims who)) (claims_who provider claims now formed) (λ who is. source_good claims who are is)
+    after_step IsGoodWho IsGoodSource (who_of_claims provider claims now) (λ who. Ok (source_by claims who))
+    (claims_who provider claims now formed) (λ who is. source_good claims who are is)
 
 any : {X : Type 0} (r : Result X RuleCode) → IfOk r (λ _. Unit {0})
 any (Ok x) = tt
@@ -139,7 +145,8 @@ token_source : (provider : ProviderView) (token : List ℕ) (now : ℕ) → IsFo
 unfolding source_of
 token_source provider token now formed =
     after_step (λ _. Unit {0}) IsGoodSource (opened provider.key token) _ (any (opened provider.key token)) (λ payload _.
-    after_step AreFormed IsGoodSource (claimed_by (claims_of payload)) _ (claimed (claims_of payload) (claims_formed payload)) (λ claims are. claims_source provider claims now formed are))
+    after_step AreFormed IsGoodSource (claimed_by (claims_of payload)) _ (claimed (claims_of payload) (claims_formed payload))
+    (λ claims are. claims_source provider claims now formed are))
 
 -- what a subject token gives under a provider has its forms
 pub source_forms : (provider : ProviderView) (token : List ℕ) (now : ℕ) (s : Source) → IsFormed provider → source_of provider token now ≡ Ok s → IsGoodSource s

@@ -1,13 +1,13 @@
+pub mod Ancestors
 pub mod Authority
 pub mod Chain
 pub mod Entries
 pub mod Facts
+pub mod Hops
 pub mod Issued
 pub mod Licence
 pub mod Places
 pub mod Prepared
 pub mod Recorded
-pub mod Refusals
 pub mod Shown
-pub mod Sources
 pub mod State

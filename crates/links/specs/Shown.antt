@@ -11,7 +11,7 @@ use Rattle.wif_claims.specs.declared.claims.Claims.{Claims}
 use Rattle.wif_claims.specs.Payload.{claims_of}
 use Rattle.links.specs.declared.entry.Entry.TheVariants.{Federated}
 use Rattle.links.specs.declared.entry.Exchange.{Exchange}
-use Rattle.links.specs.Sources.{source_by}
+use Rattle.subject_token.specs.Sources.{source_by}
 use Rattle.links.specs.State.{Content, federated_link, link_of, provider_enabled}
 
 -- There is the provider that the exchange names, enabled, in an enabled pool. The subject token verifies under its key, it admits the

@@ -16,12 +16,14 @@ use Rattle.service_view.specs.View.{View, start_view, view_after, pool_enabled}
 use Rattle.links.specs.declared.entry.Entry.{Entry}
 use Rattle.links.specs.declared.entry.Entry.TheVariants as entry
 use Rattle.links.specs.declared.entry.Narrowing.{Narrowing}
-use Rattle.links.specs.declared.fault.RuleCode.{RuleCode}
-use Rattle.links.specs.declared.fault.RuleCode.TheVariants.{E14, E15}
-use Rattle.links.specs.declared.source.Source.{Source}
+use Rattle.links.specs.declared.entry.Impersonation.{Impersonation}
+use Rattle.links.specs.declared.entry.Delegation.{Delegation}
+use Rattle.entry_rules.specs.declared.fault.RuleCode.{RuleCode}
+use Rattle.entry_rules.specs.declared.fault.RuleCode.TheVariants.{E14, E15}
+use Rattle.subject_token.specs.declared.source.Source.{Source}
 use Rattle.links.specs.Chain.{Kind, Link, Chain, chains_of, chain_at, next_chain}
 use Rattle.links.specs.Facts.{facts_of}
-use Rattle.links.specs.Sources.{passed, source_of}
+use Rattle.subject_token.specs.Sources.{passed, source_of}
 
 -- The issuer and the key of the tokens that are issued, what stands under the names that commands put, how many entries there
 -- were, and the links that they recorded.
@@ -65,11 +67,21 @@ federated_link words at source = record { at = at; words = words; kind = Kind.Fe
 abbrev pub narrow_link : Narrowing → Link
 narrow_link x = record { at = x.at; words = x.scope; kind = Kind.Narrow x.parent x.boundary }
 
+-- the link that impersonates service accounts with an earlier one
+abbrev pub impersonate_link : Impersonation → Link
+impersonate_link x = record { at = x.at; words = x.scope; kind = Kind.Impersonate x.parent x.accounts x.lifetime }
+
+-- the link by which the holder of one earlier link acts for that of another
+abbrev pub delegate_link : Delegation → Link
+delegate_link x = record { at = x.at; words = x.scope; kind = Kind.Delegate x.subject x.actor }
+
 -- the link that an entry records
 abbrev pub link_of : Content → Entry → Option Link
 link_of c (entry.Put command) = None
 link_of c (entry.Federated x) = option_map (federated_link x.scope x.at) (result_ok (source_at c x.provider x.token x.at))
 link_of c (entry.Narrow x) = Some (narrow_link x)
+link_of c (entry.Impersonate x) = Some (impersonate_link x)
+link_of c (entry.Delegate x) = Some (delegate_link x)
 
 -- the links with this one behind them, if there is one
 abbrev pub with_link : List Link → Option Link → List Link
@@ -81,6 +93,8 @@ abbrev pub view_behind : View → Entry → View
 view_behind view (entry.Put command) = view_after view command
 view_behind view (entry.Federated x) = view
 view_behind view (entry.Narrow x) = view
+view_behind view (entry.Impersonate x) = view
+view_behind view (entry.Delegate x) = view
 
 -- the state after an entry
 abbrev pub after : Content → Entry → Content

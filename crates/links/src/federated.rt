@@ -3,26 +3,31 @@ ghost use Rattle.base_types.specs.Rules.{fails_if, first_of};
 ghost use Rattle.access_token.specs.Facts.{name_of};
 ghost use Rattle.service_view.specs.View.{cloud_platform as word_from_start};
 ghost use Rattle.links.specs.declared.entry.Entry.TheVariants as entries;
-ghost use Rattle.links.specs.declared.fault.RuleCode.TheVariants.{E15};
+ghost use Rattle.entry_rules.specs.declared.fault.RuleCode.TheVariants.{E15};
 ghost use Rattle.links.specs.Chain.{Root};
 ghost use Rattle.links.specs.Entries.{IsExchange};
 ghost use Rattle.links.specs.Facts.{pools_in};
-ghost use Rattle.links.specs.Licence.{Passes, exchange_rules, fault_of, first_unlicensed, prepared_of};
+ghost use Rattle.entry_rules.specs.Passing.{Passes, fault_of};
+ghost use Rattle.links.specs.Licence.{exchange_rules, first_unlicensed, prepared_of};
 ghost use Rattle.links.specs.Prepared.{with_link};
 ghost use Rattle.links.specs.Recorded.{recorded};
 ghost use Rattle.links.specs.State.{made, named, provider_enabled, source_at};
 
-use crate::copying::copy_words;
-use crate::fault::unlicensed;
-use crate::source::{Source, read_source};
-use crate::tokens::{Issued, MAX_LIFETIME, check_words, with_token};
-use crate::{ApplyFault, Exchange, RecordedKind, RecordedLink, RuleCode, State};
+use crate::checks::{check, knows_words};
+use crate::tokens::{Issued, with_token};
+use crate::{Exchange, RecordedKind, RecordedLink, State};
 use access_token::{Facts, subject_name};
 use base_types::{Items, Text};
+use derived_facts::copy_words;
+use entry_rules::{ApplyFault, RuleCode, unlicensed};
 use iam_names::{Audience, PoolName, ScopeWord, Who};
 use pools::Provider;
 use service_view::cloud_platform;
 use std::alloc::{AllocError, Global};
+use subject_token::{Source, read_source};
+
+// How long a token lasts at most, in seconds.
+const MAX_LIFETIME: u64 = 3600;
 
 /// The scope of an exchange that names none.
 pub fn all_permissions(alloc: Global) -> Result<Items<ScopeWord>, AllocError>
@@ -34,14 +39,15 @@ pub fn all_permissions(alloc: Global) -> Result<Items<ScopeWord>, AllocError>
 }
 
 /// The link that an exchange records, with its token, or the first rule that forbids it.
-#[tactic(auto, using(crate::proofs::Preparing::refused_before))]
+#[tactic(auto, using(crate::proofs::Preparing::exchange_refused_before))]
 pub(crate) fn issue(alloc: Global, state: &State, exchange: &Exchange) -> Result<Issued, ApplyFault>
     requires { IsExchange exchange.now }
     ensures licensed { Passes result (first_unlicensed state.now.content (entries.Federated exchange.now)) }
-    ensures issued { IfOk result (λ issued. with_link (entries.Federated exchange.now) issued ≡ prepared_of state.now.content (entries.Federated exchange.now)) }
+    ensures issued { IfOk result (λ issued. with_link (entries.Federated exchange.now) issued
+        ≡ prepared_of state.now.content (entries.Federated exchange.now)) }
 {
     let recorded = link_for(alloc, state, exchange)?;
-    with_token(alloc, state, recorded)
+    with_token(alloc, state, recorded, RuleCode::E25)
 }
 
 // The link that an exchange would record.
@@ -50,7 +56,8 @@ fn link_for(alloc: Global, state: &State, exchange: &Exchange) -> Result<Recorde
     ensures link { IfOk result (λ link. Some link ≡ option_map recorded (made state.now.content (entries.Federated exchange.now))) }
     ensures passes { Passes result (first_of (exchange_rules state.now.content exchange.now)) }
 {
-    check_words(state, exchange.scope.as_slice())?;
+    let known = knows_words(state, exchange.scope.as_slice());
+    check(known, RuleCode::E11)?;
     let source = source_in(
         alloc,
         state,
@@ -160,10 +167,8 @@ fn source_in(
 fn check_enabled(state: &State, provider: &Provider) -> Result<(), ApplyFault>
     ensures { Passes result (fails_if (not (provider_enabled state.now.content.view provider.now)) E15) }
 {
-    if !provider.is_disabled() && state.view().is_pool_enabled(&provider.name().pool) {
-        return Ok(());
-    }
-    Err(unlicensed(RuleCode::E15))
+    let enabled = !provider.is_disabled() && state.view().is_pool_enabled(&provider.name().pool);
+    check(enabled, RuleCode::E15)
 }
 
 fn provider_named<'a>(

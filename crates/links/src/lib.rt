@@ -1,11 +1,13 @@
 //! The journal's entries, the links that they record, and the state that they leave.
 #![tactic(auto)]
 
-mod copying;
-mod detail;
+mod authority;
+mod checks;
+mod delegate;
 mod entry;
-mod fault;
 mod federated;
+mod hops;
+mod impersonate;
 mod issued;
 mod laws;
 mod narrow;
@@ -14,24 +16,24 @@ mod prepared;
 mod recorded;
 mod recording;
 mod roles;
-mod source;
 mod state;
 mod tokens;
 
-pub use entry::{Entry, Exchange, Narrowing};
-pub use fault::{ApplyFault, RuleCode};
+pub use authority::{admits, live};
+pub use checks::knows_words;
+pub use entry::{Delegation, Entry, Exchange, Impersonation, Narrowing};
 pub use federated::all_permissions;
 pub use issued::find_issued;
 pub use laws::{
-    a_narrowed_link_does_no_more_than_its_parent, a_narrowing_goes_on_from_its_parent,
-    each_token_has_its_link, entries_that_follow_change_no_link,
-    issued_for_a_verified_subject_token_alone, links_are_decided_by_what_they_carry,
+    a_disabled_pool_or_account_ends_its_links, delegated_where_the_subject_names_the_actor,
+    each_link_of_a_chain_counts, each_token_has_its_link, entries_that_follow_change_no_link,
+    impersonated_where_each_hop_is_granted, issued_for_a_verified_subject_token_alone,
+    links_are_decided_by_what_they_carry, links_go_on_from_those_that_they_name,
+    no_link_does_more_than_it_was_made_from, what_limits_an_actor_does_not_count,
 };
-pub use numbered::{chain_of, exp_of, facts_of, live, payload_of, render, words_of};
+pub use numbered::{chain_of, exp_of, facts_of, payload_of, render, words_of};
 pub use prepared::Prepared;
 pub use recorded::{RecordedKind, RecordedLink};
 pub use recording::{apply, commit, prepare};
 pub use roles::unknown_role;
-pub use source::Source;
 pub use state::{State, start};
-pub use tokens::knows_words;

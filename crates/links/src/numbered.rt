@@ -1,9 +1,6 @@
 ghost use Rattle.std.specs.Prelude.{◌≡◌, ◌<◌, ◌∷◌, ◌++◌, [], length, true, Some, IfOk, option_map};
-ghost use Rattle.std.specs.List.{list_all};
-ghost use Rattle.service_view.specs.View.{pool_enabled};
 ghost use Rattle.access_token.specs.Forms.{are_words};
 ghost use Rattle.access_token.specs.Payload.{payload_text};
-ghost use Rattle.links.specs.Authority.{live as lives};
 ghost use Rattle.links.specs.Chain.{own};
 ghost use Rattle.links.specs.Facts.{exp_of as expiry, facts_of as facts_in, numbers_of};
 ghost use Rattle.links.specs.State.{chain, token_text};
@@ -12,8 +9,7 @@ use crate::{RecordedKind, State};
 use access_token::{Facts, last_words, write_payload};
 use base_types::Text;
 use hmac_jws::sign;
-use iam_names::{PoolName, ScopeWord};
-use service_view::View;
+use iam_names::ScopeWord;
 use std::alloc::{AllocError, Global};
 
 /// What the token of a link says.
@@ -22,22 +18,6 @@ pub fn facts_of(state: &State, number: u32) -> &Facts
     ensures { option_map facts_in (chain state.now.content number) ≡ Some result.now }
 {
     &state.recorded(number).facts
-}
-
-/// Whether the link is live at the moment `now`, in seconds since 1970-01-01T00:00:00Z: neither it nor a link that it was made from
-/// is expired, and the pools of their subject tokens are enabled.
-pub fn live(state: &State, number: u32, now: u64) -> bool
-    requires { number < length state.now.content.links }
-    ensures { option_map (λ found. lives state.now.content.view found now) (chain state.now.content number) ≡ Some result }
-{
-    let facts = facts_of(state, number);
-    now < facts.exp && are_enabled(state.view(), facts.pools.as_slice())
-}
-
-fn are_enabled(view: &View, pools: &[PoolName]) -> bool
-    ensures { result ≡ list_all (pool_enabled view.now.content) pools.now }
-{
-    pools.iter().all(|pool| view.is_pool_enabled(pool))
 }
 
 /// The moment from which on the link isn't live.
@@ -58,7 +38,7 @@ pub fn words_of(state: &State, number: u32) -> &[ScopeWord]
     last_words(facts_of(state, number).scopes.as_slice())
 }
 
-/// The numbers of the links that the link goes back to, from the first to its own.
+/// The numbers of the links that the link goes back to through parents and subjects, from the first to its own.
 pub fn chain_of(alloc: Global, state: &State, number: u32) -> Result<Vec<u32>, AllocError>
     requires { number < length state.now.content.links }
     ensures { IfOk result (λ numbers. option_map numbers_of (chain state.now.content number) ≡ Some numbers.items) }
@@ -66,7 +46,12 @@ pub fn chain_of(alloc: Global, state: &State, number: u32) -> Result<Vec<u32>, A
     state.has_a_lawful_journal();
     match state.recorded(number).kind {
         RecordedKind::Federated { .. } => with_last(Vec::new(alloc), number),
-        RecordedKind::Narrow { parent, .. } => with_last(chain_of(alloc, state, parent)?, number),
+        RecordedKind::Narrow { parent, .. } | RecordedKind::Impersonate { parent, .. } => {
+            with_last(chain_of(alloc, state, parent)?, number)
+        }
+        RecordedKind::Delegate { subject, .. } => {
+            with_last(chain_of(alloc, state, subject)?, number)
+        }
     }
 }
 

@@ -1,17 +1,20 @@
 ghost use Rattle.std.specs.Prelude.{◌≡◌, ◌≤◌, ◌<◌, ◌-◌, ◌^◌, IfOk, IfErr, OnOk, OnErr};
 ghost use Rattle.links.specs.declared.entry.Entry.TheVariants as entries;
-ghost use Rattle.links.specs.declared.fault.ApplyFault.{ApplyFault as Fault};
-ghost use Rattle.links.specs.Entries.{IsEntry, IsExchange, IsNarrowing};
-ghost use Rattle.links.specs.Licence.{Licensed, Passes, first_unlicensed, prepared_of, refusal_of};
+ghost use Rattle.entry_rules.specs.declared.fault.ApplyFault.{ApplyFault as Fault};
+ghost use Rattle.links.specs.Entries.{IsEntry};
+ghost use Rattle.entry_rules.specs.Passing.{Passes};
+ghost use Rattle.links.specs.Licence.{Licensed, first_unlicensed, prepared_of, refusal_of};
 ghost use Rattle.links.specs.Prepared.{planned, with_link};
 ghost use Rattle.links.specs.State.{after};
 
-use crate::fault::unlicensed;
+use crate::delegate::delegate;
 use crate::federated::issue;
+use crate::impersonate::impersonate;
 use crate::narrow::narrow;
 use crate::prepared::Plan;
 use crate::tokens::Issued;
-use crate::{ApplyFault, Entry, Exchange, Narrowing, Prepared, RuleCode, State};
+use crate::{Entry, Prepared, State};
+use entry_rules::{ApplyFault, RuleCode, unlicensed};
 use service_view::{Command, ReadyFault};
 use std::alloc::{AllocError, Global};
 
@@ -26,8 +29,22 @@ pub fn prepare(alloc: Global, state: &mut State, entry: Entry) -> Result<Prepare
 {
     match entry {
         Entry::Put(command) => prepare_put(alloc, state, command),
-        Entry::Federated(exchange) => prepare_exchange(alloc, state, exchange),
-        Entry::Narrow(narrowing) => prepare_narrowing(alloc, state, narrowing),
+        Entry::Federated(exchange) => {
+            let issued = issue(alloc, state, &exchange);
+            prepare_link(state, Entry::Federated(exchange), issued)
+        }
+        Entry::Narrow(narrowing) => {
+            let issued = narrow(alloc, state, &narrowing);
+            prepare_link(state, Entry::Narrow(narrowing), issued)
+        }
+        Entry::Impersonate(impersonation) => {
+            let issued = impersonate(alloc, state, &impersonation);
+            prepare_link(state, Entry::Impersonate(impersonation), issued)
+        }
+        Entry::Delegate(delegation) => {
+            let issued = delegate(alloc, state, &delegation);
+            prepare_link(state, Entry::Delegate(delegation), issued)
+        }
     }
 }
 
@@ -54,52 +71,26 @@ fn refusal(fault: ReadyFault) -> ApplyFault
     }
 }
 
-fn prepare_exchange(
-    alloc: Global,
+// Prepares an entry whose link was made, or which was refused.
+fn prepare_link(
     state: &mut State,
-    exchange: Exchange,
+    entry: Entry,
+    issued: Result<Issued, ApplyFault>,
 ) -> Result<Prepared, ApplyFault>
-    requires room { state.old.content.count < 2 ^ 32 - 1 }
-    requires form { IsExchange exchange }
-    ensures licensed { Passes result (first_unlicensed state.old.content (entries.Federated exchange)) }
-    ensures prepared { IfOk result (λ prepared. prepared ≡ prepared_of state.old.content (entries.Federated exchange)) }
+    requires licensed { Passes issued (first_unlicensed state.old.content entry) }
+    requires issued { IfOk issued (λ issued. with_link entry issued ≡ prepared_of state.old.content entry) }
+    ensures licensed { Passes result (first_unlicensed state.old.content entry) }
+    ensures prepared { IfOk result (λ prepared. prepared ≡ prepared_of state.old.content entry) }
     ensures content { state.new.content ≡ state.old.content }
     ensures room { OnOk result (1 ≤ state.new.spare) }
 {
-    match issue(alloc, state, &exchange) {
-        Ok(issued) => with_room(state, linked(Entry::Federated(exchange), issued)),
+    match issued {
+        Ok(issued) => with_room(state, Plan::Link { entry, issued }),
         Err(fault) => {
-            drop(exchange);
+            drop(entry);
             Err(fault)
         }
     }
-}
-
-fn prepare_narrowing(
-    alloc: Global,
-    state: &mut State,
-    narrowing: Narrowing,
-) -> Result<Prepared, ApplyFault>
-    requires room { state.old.content.count < 2 ^ 32 - 1 }
-    requires form { IsNarrowing narrowing }
-    ensures licensed { Passes result (first_unlicensed state.old.content (entries.Narrow narrowing)) }
-    ensures prepared { IfOk result (λ prepared. prepared ≡ prepared_of state.old.content (entries.Narrow narrowing)) }
-    ensures content { state.new.content ≡ state.old.content }
-    ensures room { OnOk result (1 ≤ state.new.spare) }
-{
-    match narrow(alloc, state, &narrowing) {
-        Ok(issued) => with_room(state, linked(Entry::Narrow(narrowing), issued)),
-        Err(fault) => {
-            drop(narrowing);
-            Err(fault)
-        }
-    }
-}
-
-fn linked(entry: Entry, issued: Issued) -> Plan
-    ensures { planned result ≡ with_link entry issued }
-{
-    Plan::Link { entry, issued }
 }
 
 fn with_room(state: &mut State, plan: Plan) -> Result<Prepared, ApplyFault>

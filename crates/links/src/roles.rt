@@ -1,6 +1,6 @@
 ghost use Rattle.std.specs.Prelude.{◌≡◌, option_map};
 ghost use Rattle.std.specs.List.{list_all};
-ghost use Rattle.links.specs.declared.fault.RuleCode.TheVariants.{E12};
+ghost use Rattle.entry_rules.specs.declared.fault.RuleCode.TheVariants.{E12};
 ghost use Rattle.links.specs.Licence as licence;
 ghost use Rattle.links.specs.Places.{place_of};
 

@@ -18,7 +18,7 @@ use Rattle.access_token.proofs.Says.{text_back}
 use Rattle.grant_gate.specs.Carried.{carried_of}
 use Rattle.grant_gate.specs.Decision.{boundary_holds, facts_decision, carried_decision, place_failing, words_allow}
 use Rattle.links.specs.declared.entry.Entry.{Entry}
-use Rattle.links.specs.Authority.{admits, allows, live}
+use Rattle.links.specs.Authority.{admits, allows}
 use Rattle.links.specs.Chain.{Chain}
 use Rattle.links.specs.Facts.{facts_of, exp_of, who_of, pools_of, accounts_of, scopes_of, bounds_of}
 use Rattle.links.specs.Issued.{issued_link}
@@ -116,7 +116,7 @@ carried_by : (key issuer text payload : List ℕ) (facts : Facts) → first_jws_
 unfolding carried_of
 carried_by key issuer text payload facts good is says = rw (good, is, says) refl
 
-token_carries : (c : Content) (n : ℕ) (found : Chain) → IsUtf8 c.issuer → n < 2 ^ 32 → IsGood n found
+pub token_carries : (c : Content) (n : ℕ) (found : Chain) → IsUtf8 c.issuer → n < 2 ^ 32 → IsGood n found
     → carried_of c.key c.issuer (token_text c found) ≡ Ok (facts_of found)
 unfolding token_text
 token_carries c n found utf8 low good =
@@ -126,6 +126,17 @@ token_carries c n found utf8 low good =
     let bytes = IsBytes-payload_text c.issuer facts exact in
     carried_by c.key c.issuer (compact c.key payload) payload facts (MacGood-compact c.key payload bytes) (payload_of-compact c.key payload bytes)
     (text_back c.issuer facts exact (formed-good n found low good))
+
+-- and so does that of each recorded link
+pub carries_its_facts : (config : Config) (journal : List Entry) (n : ℕ) (found : Chain) → IsFormedConfig config → Lawful config journal
+    → length journal ≤ 2 ^ 32 → chain (content_of config journal) n ≡ Some found
+    → carried_of (content_of config journal).key (content_of config journal).issuer (token_text (content_of config journal) found) ≡ Ok (facts_of found)
+carries_its_facts config journal n found formed lawful few there =
+    let c = content_of config journal in
+    let kept = lawful_kept config journal formed lawful in
+    let within : n < length c.links = within_of_chain c n found there in
+    let low : n < 2 ^ 32 = omega (arith, within, (follows (start_of config) journal).few, few) in
+    token_carries c n found kept.issuer low (good_of_chain c n found kept there)
 
 -- the decision by a link's token, in a state under the same key and issuer, is the link's own
 pub agrees : (before later : Content) (n : ℕ) (found : Chain) (permission resource : List ℕ) (now : ℕ) → IsUtf8 before.issuer → n < 2 ^ 32 → IsGood n found

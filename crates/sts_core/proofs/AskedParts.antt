@@ -19,6 +19,9 @@ use Rattle.boundary.specs.Exact.{AreSaid, IsExactBoundary, IsSaid}
 use Rattle.boundary.specs.declared.fault.BoundaryCause.TheVariants.{Shape, TooMany, Resource, Permission, Condition}
 use Rattle.boundary.specs.declared.rules.Boundary.{Boundary}
 use Rattle.boundary.proofs.Formed.{exact-from}
+use Rattle.boundary.proofs.Options.{then-passing}
+use Rattle.service_view.specs.View.{View}
+use Rattle.links.specs.Authority.{is_live, live}
 use Rattle.links.specs.Chain.{Chain, chains_of, joined}
 use Rattle.links.specs.Issued.{is_text_of, issued_link}
 use Rattle.links.specs.Licence.{unknown_role}
@@ -26,10 +29,11 @@ use Rattle.links.specs.Places.{place_of}
 use Rattle.links.specs.State.{Content, chain}
 use Rattle.links.proofs.Journals.{within_of_chain}
 use Rattle.links.proofs.Places.{FoundAt, cases}
-use Rattle.sts_core.specs.Asked.{as_rule, asked_boundary, boundary_under, known_boundary, read_boundary, unless, words_of}
-use Rattle.sts_core.specs.Forms.{is_object, object_of}
-use Rattle.sts_core.specs.declared.exchange_rule.ExchangeRule.{ExchangeRule}
-use Rattle.sts_core.specs.declared.exchange_rule.ExchangeRule.TheVariants.{Options}
+use Rattle.sts_core.specs.Asked.{as_rule, asked_boundary, boundary_under, known_boundary, live_issued, read_boundary, words_of}
+use Rattle.exchange_form.specs.FormRules.{unless}
+use Rattle.exchange_form.specs.Forms.{is_object, object_of}
+use Rattle.exchange_form.specs.declared.exchange_rule.ExchangeRule.{ExchangeRule}
+use Rattle.exchange_form.specs.declared.exchange_rule.ExchangeRule.TheVariants.{Options}
 use Rattle.sts_core.proofs.LinkWords.{HaveWords}
 
 -- ---- steps
@@ -51,7 +55,7 @@ pub where_needed : {X E : Type 0} (fault : E) (found : Option X) (P : X → Type
 where_needed fault None P is = tt
 where_needed fault (Some x) P is = is
 
-where_there : {X Y : Type 0} (found : Option X) (next : X → Option Y) (P : X → Type 0) (Q : Y → Type 0)
+pub where_there : {X Y : Type 0} (found : Option X) (next : X → Option Y) (P : X → Type 0) (Q : Y → Type 0)
     → IfSome found P → ((x : X) → P x → IfSome (next x) Q) → IfSome (option_and_then next found) Q
 where_there None next P Q is step = tt
 where_there (Some x) next P Q is step = step x is
@@ -178,7 +182,24 @@ linked c text n is = linked_at c text n is (cases (is_text_of c text) (chains_of
 pub issued_within : (c : Content) (text : List ℕ) (n : ℕ) → issued_link c text ≡ Some n → n < length c.links
 issued_within c text n is = let at = linked c text n is in within_of_chain c n at.found at.is
 
-pub issued_words : (c : Content) (text : List ℕ) (n : ℕ) → HaveWords c → issued_link c text ≡ Some n → are_words (words_of (chain c n)) ≡ true
-issued_words c text n words is =
-    let at = linked c text n is in
+-- the token of a live link was issued for it
+pub live_number : (c : Content) (now : ℕ) (text : List ℕ) (n : ℕ) → live_issued c now text ≡ Some n → issued_link c text ≡ Some n
+live_number c now text n is = (then-passing (λ (number : ℕ). is_live c.view (chain c number) now) (issued_link c text) n is).0
+
+pub live_words : (c : Content) (now : ℕ) (text : List ℕ) (n : ℕ) → HaveWords c → live_issued c now text ≡ Some n → are_words (words_of (chain c n)) ≡ true
+live_words c now text n words is =
+    let at = linked c text n (live_number c now text n is) in
     ap (λ (found : Option Chain). are_words (words_of found)) at.is ∙ words n at.found at.is
+
+is_live_by : (view : View) (found : Option Chain) (now : ℕ) (alive : Bool) → option_map (λ (one : Chain). live view one now) found ≡ Some alive
+    → is_live view found now ≡ alive
+is_live_by view None now alive is = absurd (cc is)
+is_live_by view (Some one) now alive is = cc is
+
+pub found_live : (c : Content) (now : ℕ) (text : List ℕ) (n : ℕ) → issued_link c text ≡ Some n
+    → option_map (λ (one : Chain). live c.view one now) (chain c n) ≡ Some true → live_issued c now text ≡ Some n
+found_live c now text n issued alive = rw (issued, is_live_by c.view (chain c n) now true alive) refl
+
+pub found_ended : (c : Content) (now : ℕ) (text : List ℕ) (n : ℕ) → issued_link c text ≡ Some n
+    → option_map (λ (one : Chain). live c.view one now) (chain c n) ≡ Some false → live_issued c now text ≡ None
+found_ended c now text n issued ended = rw (issued, is_live_by c.view (chain c n) now false ended) refl

@@ -1,5 +1,7 @@
 -- The laws of checks, and of the journal that each step leaves.
-use Rattle.std.proofs.Common.{◌≡◌, ℕ, ◌≤◌, ◌^◌, ◌∷◌, [], List, Bool, true, false, length, refl, sym, ap, ◌∙◌, subst}
+use Rattle.std.proofs.Common.{◌≡◌, ℕ, ◌≤◌, ◌^◌, ◌∷◌, [], List, Bool, true, false, ◌&&◌, length, refl, sym, ap, ◌∙◌, subst, arith}
+use Rattle.std.proofs.lemmas.Bool.{and_from, and_parts}
+use Rattle.std.specs.List.{list_all}
 use Rattle.std.specs.Prelude.{◌↔◌, ⊤, nat_lt, IfOk, IfSome, Option, None, Some, Result, Ok, Err, option_and_then, if◌then◌else◌}
 use Rattle.base_types.specs.Rules.{first_failing}
 use Rattle.serde_json.specs.Data.{Data}
@@ -26,27 +28,32 @@ use Rattle.grant_gate.specs.declared.fault.GateFault.{GateFault}
 use Rattle.grant_gate.specs.declared.fault.GateFault.TheVariants as gate
 use Rattle.links.specs.declared.entry.Entry.{Entry}
 use Rattle.links.specs.declared.entry.Entry.TheVariants as entry
-use Rattle.links.specs.declared.fault.RuleCode.{RuleCode}
-use Rattle.links.specs.Authority.{admits}
+use Rattle.entry_rules.specs.declared.fault.RuleCode.{RuleCode}
+use Rattle.links.specs.Ancestors.{limits_in, links_in}
+use Rattle.links.specs.Authority.{admits, allows, allows_itself, live, lives_itself}
+use Rattle.allow_policy.specs.Granting.{granted}
 use Rattle.boundary.specs.declared.rules.Boundary.{Boundary}
-use Rattle.links.specs.Chain.{Chain, Narrowed, Own, own}
+use Rattle.links.specs.Chain.{Chain, Narrowed, Delegated, Own, own}
 use Rattle.links.specs.Entries.{IsEntry}
-use Rattle.links.specs.Facts.{exp_of, pools_of, accounts_of, scopes_of, bounds_of}
+use Rattle.links.specs.Facts.{exp_of, who_of, pools_of, accounts_of, scopes_of, bounds_of}
 use Rattle.links.specs.Issued.{issued_link}
 use Rattle.links.specs.Licence.{first_unlicensed, Lawful}
 use Rattle.links.specs.State.{chain, content_of, start_of, state_after, token_text}
-use Rattle.links.proofs.ByLists.{parent_admits}
+use Rattle.links.proofs.Counted.{each_allows, each_lives, parent_admits, subject_admits}
 use Rattle.links.proofs.Journals.{lawful_kept, whole_of_chain}
 use Rattle.links.proofs.LinkLaws.{issued_for}
 use Rattle.links.proofs.Replays.{lawful-last, state_after-append}
-use Rattle.sts_core.specs.declared.exchange_rule.ExchangeRule.{ExchangeRule}
+use Rattle.exchange_form.specs.declared.exchange_rule.ExchangeRule.{ExchangeRule}
 use Rattle.sts_core.specs.Asked.{asked_for}
-use Rattle.sts_core.specs.Forms.{form_of, object_of}
-use Rattle.sts_core.specs.Machine.{administration, command_in, commanded, commanded_by, exchange, exchanged, is_bearer}
+use Rattle.exchange_form.specs.Forms.{form_of, object_of}
+use Rattle.sts_core.specs.Generated.{generated_for}
+use Rattle.sts_core.specs.declared.generate_rule.GenerateRule.{GenerateRule}
+use Rattle.sts_core.specs.Machine.{administration, command_in, commanded, commanded_by, exchange, exchanged, generate, generate_asked, generate_ruled, is_bearer}
 use Rattle.sts_core.specs.Machine.{no_entry, ruled, step, step_of, with_entry}
 use Rattle.sts_core.specs.Replies.{u1}
 use Rattle.sts_core.specs.Check.{check_decision, chain_or_carried, issued_chain, first_denial, link_decision}
 use Rattle.sts_core.proofs.Formed.{asked_formed}
+use Rattle.sts_core.proofs.FormedImpersonations.{generated_formed}
 use Rattle.sts_core.proofs.LinkWords.{lawful_words}
 
 -- ---- a denial is no admission
@@ -122,6 +129,60 @@ narrowed_checks config journal n o boundary parent permission resource now forme
     (issued_checks config journal (own parent).number parent permission resource now formed lawful few before).1
     (parent_admits c.view o boundary parent permission resource now admits_it)
 
+pub delegated_checks : (config : Config) (journal : List Entry) (n : ℕ) (o : Own) (subject actor : Chain) (permission resource : List ℕ) (now : ℕ)
+    → IsFormedConfig config → Lawful config journal → length journal ≤ 2 ^ 32 → chain (content_of config journal) n ≡ Some (Delegated o subject actor)
+    → check_decision (content_of config journal) (token_text (content_of config journal) (Delegated o subject actor)) permission resource now ≡ Admit
+    → check_decision (content_of config journal) (token_text (content_of config journal) subject) permission resource now ≡ Admit
+delegated_checks config journal n o subject actor permission resource now formed lawful few there admitted =
+    let c = content_of config journal in
+    let found = Delegated o subject actor in
+    let before : chain c (own subject).number ≡ Some subject = (whole_of_chain c n found (lawful_kept config journal formed lawful) there).0 in
+    let admits_it = (issued_checks config journal n found permission resource now formed lawful few there).0 admitted in
+    (issued_checks config journal (own subject).number subject permission resource now formed lawful few before).1
+    (subject_admits c.view o subject actor permission resource now admits_it)
+
+-- a delegated link ends with its subject and with its actor
+pub delegated_ends : (o : Own) (subject actor : Chain)
+    → (exp_of (Delegated o subject actor) ≤ exp_of subject) × (exp_of (Delegated o subject actor) ≤ exp_of actor)
+delegated_ends o subject actor = (omega arith, omega arith)
+
+pub narrowed_ends : (o : Own) (boundary : Option Boundary) (parent : Chain) → exp_of (Narrowed o boundary parent) ≤ exp_of parent
+narrowed_ends o boundary parent = omega arith
+
+-- each link of the chain is live by itself, each that limits it allows the permission, and its principal is granted it
+Each : View → Chain → List ℕ → List ℕ → ℕ → Type 0
+Each view found permission resource now =
+    (list_all (λ link. lives_itself view link now) (links_in found) ≡ true)
+    × (list_all (λ link. allows_itself view link permission resource now) (limits_in found) ≡ true)
+    × (granted view.lists (who_of found) permission resource now ≡ true)
+
+admits_by_each : (view : View) (found : Chain) (permission resource : List ℕ) (now : ℕ)
+    → (admits view found permission resource now ≡ true) ↔ Each view found permission resource now
+unfolding Each
+admits_by_each view found permission resource now =
+    let lives = live view found now in
+    let may = allows view found permission resource now in
+    let grants = granted view.lists (who_of found) permission resource now in (
+      λ is.
+          let first = and_parts lives (may && grants) is in
+          let second = and_parts may grants first.1 in
+          (sym (each_lives view found now) ∙ first.0, sym (each_allows view found permission resource now) ∙ second.0, second.1),
+      λ each. and_from lives (may && grants) (each_lives view found now ∙ each.0)
+          (and_from may grants (each_allows view found permission resource now ∙ each.1) each.2),
+    )
+
+pub linked_checks : (config : Config) (journal : List Entry) (n : ℕ) (found : Chain) (permission resource : List ℕ) (now : ℕ)
+    → IsFormedConfig config → Lawful config journal → length journal ≤ 2 ^ 32 → chain (content_of config journal) n ≡ Some found
+    → (check_decision (content_of config journal) (token_text (content_of config journal) found) permission resource now ≡ Admit)
+    ↔ ((list_all (λ link. lives_itself (content_of config journal).view link now) (links_in found) ≡ true)
+    × (list_all (λ link. allows_itself (content_of config journal).view link permission resource now) (limits_in found) ≡ true)
+    × (granted (content_of config journal).view.lists (who_of found) permission resource now ≡ true))
+unfolding Each
+linked_checks config journal n found permission resource now formed lawful few there =
+    let by_it = issued_checks config journal n found permission resource now formed lawful few there in
+    let by_each = admits_by_each (content_of config journal).view found permission resource now in
+    (λ admitted. by_each.0 (by_it.0 admitted), λ each. by_it.1 (by_each.1 each))
+
 -- ---- a check of any other text
 
 fault_denies : (fault : GateFault) → IsDenial (fault_decision fault)
@@ -195,10 +256,28 @@ exchange_lawful config journal request now low lawful =
     exchanged_lawful config journal (asked_for c (form_of request.body) now)
     (asked_formed c (form_of request.body) now (lawful_words config journal lawful) low) lawful
 
+generate_ruled_lawful : (config : Config) (journal : List Entry) (e : Entry) (rule : Option RuleCode)
+    → first_unlicensed (content_of config journal) e ≡ rule → IsEntry e → Lawful config journal
+    → Lawful config (with_entry journal (generate_ruled (content_of config journal) e rule).entry)
+generate_ruled_lawful config journal e None is form lawful = lawful-last (start_of config) journal e lawful form is
+generate_ruled_lawful config journal e (Some rule) is form lawful = lawful
+
+generate_asked_lawful : (config : Config) (journal : List Entry) (asked : Result Entry GenerateRule) → IfOk asked IsEntry → Lawful config journal
+    → Lawful config (with_entry journal (generate_asked (content_of config journal) asked).entry)
+generate_asked_lawful config journal (Err rule) form lawful = lawful
+generate_asked_lawful config journal (Ok e) form lawful =
+    generate_ruled_lawful config journal e (first_unlicensed (content_of config journal) e) refl form lawful
+
+pub generate_lawful : (config : Config) (journal : List Entry) (account : List ℕ) (request : Request) (now : ℕ) → now ≤ 200_000_000_000
+    → Lawful config journal → Lawful config (with_entry journal (generate (content_of config journal) account request now).entry)
+generate_lawful config journal account request now low lawful =
+    let c = content_of config journal in
+    generate_asked_lawful config journal (generated_for c account request now) (generated_formed c account request now low) lawful
+
 route_lawful : (config : Config) (journal : List Entry) (request : Request) (route : Route) (now : ℕ) → now ≤ 200_000_000_000 → Lawful config journal
     → Lawful config (with_entry journal (step_of route config (content_of config journal) request now).entry)
 route_lawful config journal request Token now low lawful = exchange_lawful config journal request now low lawful
-route_lawful config journal request (Generate account) now low lawful = lawful
+route_lawful config journal request (Generate account) now low lawful = generate_lawful config journal account request now low lawful
 route_lawful config journal request Introspect now low lawful = lawful
 route_lawful config journal request Check now low lawful = lawful
 route_lawful config journal request Admin now low lawful = administration_lawful config journal config.admin request lawful

@@ -8,19 +8,19 @@ use Rattle.access_token.specs.Forms.{are_words}
 use Rattle.access_token.specs.Parts.{words_in}
 use Rattle.boundary.specs.declared.rules.Boundary.{Boundary}
 use Rattle.links.specs.declared.entry.Entry.{Entry}
-use Rattle.links.specs.declared.entry.Entry.TheVariants.{Federated, Narrow}
-use Rattle.links.specs.declared.fault.RuleCode.TheVariants.{E11, E14, E21}
+use Rattle.links.specs.declared.entry.Entry.TheVariants.{Federated, Delegate}
+use Rattle.entry_rules.specs.declared.fault.RuleCode.TheVariants.{E11, E14, E21, E22}
 use Rattle.links.specs.Entries.{IsEntry}
-use Rattle.links.specs.Issued.{issued_link}
 use Rattle.links.specs.Licence.{Reached, knows_word}
 use Rattle.links.specs.State.{Content, chain}
 use Rattle.service_view.specs.View.{cloud_platform}
-use Rattle.sts_core.specs.declared.exchange_rule.ExchangeRule.{ExchangeRule}
-use Rattle.sts_core.specs.declared.exchange_rule.ExchangeRule.TheVariants.{E5, Unlicensed}
-use Rattle.sts_core.specs.declared.form.Parameter.{Parameter}
-use Rattle.sts_core.specs.Asked.{asked_boundary, asked_for, asked_words, form_rules, is_outside_type, joint_rules, known_words, named_provider, narrow_entry, outside_entry, words_of}
-use Rattle.sts_core.specs.Forms.{is_absent, once}
-use Rattle.sts_core.proofs.AskedParts.{IsExactIfThere, after_rule, after_step, anything, boundary_exact, issued_words, still_formed, where_needed}
+use Rattle.exchange_form.specs.declared.exchange_rule.ExchangeRule.{ExchangeRule}
+use Rattle.exchange_form.specs.declared.exchange_rule.ExchangeRule.TheVariants.{E5, Unlicensed}
+use Rattle.exchange_form.specs.declared.form.Parameter.{Parameter}
+use Rattle.sts_core.specs.Asked.{access_entry, asked_boundary, asked_for, asked_words, derived_entry, joint_rule, known_words, live_issued, named_provider, outside_entry, words_of}
+use Rattle.exchange_form.specs.FormRules.{form_rules, is_outside_type}
+use Rattle.exchange_form.specs.Forms.{is_absent, once}
+use Rattle.sts_core.proofs.AskedParts.{IsExactIfThere, after_rule, after_step, anything, boundary_exact, live_words, still_formed, where_needed}
 use Rattle.sts_core.proofs.LinkWords.{HaveWords, reached_words}
 
 -- ---- scope words
@@ -67,21 +67,30 @@ itself : {X : Type 0} (found : Option X) → IfSome found (λ x. found ≡ Some 
 itself None = tt
 itself (Some x) = refl
 
-narrow_formed : (c : Content) (form : List Parameter) (token : List ℕ) (words : Option (List (List ℕ))) (boundary : Option Boundary) (now : ℕ)
-    → HaveWords c → now ≤ 200_000_000_000 → AreFormed words → IsExactIfThere boundary → IfOk (narrow_entry c form token words boundary now) IsEntry
-narrow_formed c form token words boundary now have low formed exact =
+derived_formed : (c : Content) (subject : ℕ) (actor : Option (List ℕ)) (scope : List (List ℕ)) (boundary : Option Boundary) (now : ℕ)
+    → now ≤ 200_000_000_000 → are_words scope ≡ true → IsExactIfThere boundary → IfOk (derived_entry c subject actor scope boundary now) IsEntry
+derived_formed c subject None scope boundary now low words exact = record { moment = low; words = words; boundary = exact }
+derived_formed c subject (Some token) scope boundary now low words exact =
+    after_step (needed (Unlicensed E22) (live_issued c now token))
+    (λ actor. Ok (Delegate (record { subject = subject; actor = actor; scope = scope; at = now }))) (λ actor. ⊤) IsEntry
+    (anything _) (λ actor there. record { moment = low; words = words })
+
+access_formed : (c : Content) (form : List Parameter) (token : List ℕ) (words : Option (List (List ℕ))) (boundary : Option Boundary) (now : ℕ)
+    → HaveWords c → now ≤ 200_000_000_000 → AreFormed words → IsExactIfThere boundary → IfOk (access_entry c form token words boundary now) IsEntry
+access_formed c form token words boundary now have low formed exact =
     after_rule (fails_if (not (is_absent form (codes "audience"))) (Unlicensed E14)) _ IsEntry
-    (after_step (needed (Unlicensed E21) (issued_link c token))
-    (λ parent. Ok (Narrow (record { parent = parent; boundary = boundary; scope = unwrap_or words (words_of (chain c parent)); at = now })))
-    (λ parent. issued_link c token ≡ Some parent) IsEntry
-    (where_needed (Unlicensed E21) (issued_link c token) (λ parent. issued_link c token ≡ Some parent) (itself (issued_link c token))) (λ parent is.
-    record { moment = low; words = or_formed words (words_of (chain c parent)) (issued_words c token parent have is) formed; boundary = exact }))
+    (after_step (needed (Unlicensed E21) (live_issued c now token))
+    (λ subject. derived_entry c subject (once (codes "actor_token") form) (unwrap_or words (words_of (chain c subject))) boundary now)
+    (λ subject. live_issued c now token ≡ Some subject) IsEntry
+    (where_needed (Unlicensed E21) (live_issued c now token) (λ subject. live_issued c now token ≡ Some subject) (itself (live_issued c now token)))
+    (λ subject is. derived_formed c subject (once (codes "actor_token") form) (unwrap_or words (words_of (chain c subject))) boundary now low
+    (or_formed words (words_of (chain c subject)) (live_words c now token subject have is) formed) exact))
 
 typed_formed : (c : Content) (form : List Parameter) (token : List ℕ) (words : Option (List (List ℕ))) (boundary : Option Boundary) (now : ℕ) (outside : Bool)
     → HaveWords c → now ≤ 200_000_000_000 → AreFormed words → IsExactIfThere boundary
-    → IfOk (if outside then outside_entry form token words now else narrow_entry c form token words boundary now) IsEntry
+    → IfOk (if outside then outside_entry form token words now else access_entry c form token words boundary now) IsEntry
 typed_formed c form token words boundary now true have low formed exact = outside_formed form token words now low formed
-typed_formed c form token words boundary now false have low formed exact = narrow_formed c form token words boundary now have low formed exact
+typed_formed c form token words boundary now false have low formed exact = access_formed c form token words boundary now have low formed exact
 
 pub asked_formed : (c : Content) (form : List Parameter) (now : ℕ) → HaveWords c → now ≤ 200_000_000_000 → IfOk (asked_for c form now) IsEntry
 unfolding asked_for
@@ -89,7 +98,7 @@ asked_formed c form now have low =
     after_rule (first_of (form_rules form)) _ IsEntry
     (after_step (asked_words c (once (codes "scope") form)) _ AreFormed IsEntry (words_formed c (once (codes "scope") form)) (λ words formed.
     after_step (asked_boundary c (once (codes "options") form)) _ IsExactIfThere IsEntry (boundary_exact c (once (codes "options") form)) (λ boundary exact.
-    after_rule (first_of (joint_rules form boundary)) _ IsEntry
+    after_rule (joint_rule form boundary) _ IsEntry
     (after_step (needed E5 (once (codes "subject_token") form)) _ (λ token. ⊤) IsEntry (anything _) (λ token found.
     typed_formed c form token words boundary now (is_outside_type (once (codes "subject_token_type") form)) have low formed exact)))))
 

@@ -6,11 +6,11 @@ use Rattle.access_token.specs.Forms.{are_words}
 use Rattle.boundary.specs.declared.rules.Boundary.{Boundary}
 use Rattle.service_config.specs.declared.config.Config.{Config}
 use Rattle.links.specs.declared.entry.Entry.{Entry}
-use Rattle.links.specs.declared.entry.Entry.TheVariants.{Put, Federated, Narrow}
+use Rattle.links.specs.declared.entry.Entry.TheVariants.{Put, Federated, Narrow, Impersonate, Delegate}
 use Rattle.links.specs.declared.entry.Exchange.{Exchange}
-use Rattle.links.specs.declared.fault.RuleCode.{RuleCode}
-use Rattle.links.specs.declared.source.Source.{Source}
-use Rattle.links.specs.Chain.{Chain, Kind, Link, Narrowed, Own, chain_at, chain_of_kind, chains_of, next_chain, own, own_at}
+use Rattle.entry_rules.specs.declared.fault.RuleCode.{RuleCode}
+use Rattle.subject_token.specs.declared.source.Source.{Source}
+use Rattle.links.specs.Chain.{Chain, Kind, Link, Narrowed, Impersonated, Own, chain_at, chain_of_kind, chains_of, delegated, next_chain, own, own_at}
 use Rattle.links.specs.Entries.{IsEntry, IsExchange}
 use Rattle.links.specs.Licence.{Lawful, LawfulFrom, Reached}
 use Rattle.links.specs.State.{Content, after, chain, content_of, federated_link, link_of, source_at, start_of, state_after, with_link}
@@ -42,10 +42,24 @@ unfolding HasWords
 narrowed_has o boundary None words = tt
 narrowed_has o boundary (Some parent) words = words
 
+impersonated_has : (o : Own) (accounts : List (List ℕ)) (lifetime : ℕ) (parent : Option Chain) → are_words o.words ≡ true
+    → IfSome (option_map (Impersonated o accounts lifetime) parent) HasWords
+unfolding HasWords
+impersonated_has o accounts lifetime None words = tt
+impersonated_has o accounts lifetime (Some parent) words = words
+
+delegated_has : (o : Own) (subject actor : Option Chain) → are_words o.words ≡ true → IfSome (delegated o subject actor) HasWords
+unfolding HasWords
+delegated_has o None actor words = tt
+delegated_has o (Some subject) None words = tt
+delegated_has o (Some subject) (Some actor) words = words
+
 kind_has : (o : Own) (chains : List (Option Chain)) (kind : Kind) → are_words o.words ≡ true → IfSome (chain_of_kind o chains kind) HasWords
 unfolding HasWords
 kind_has o chains (Kind.Federated source) words = words
 kind_has o chains (Kind.Narrow parent boundary) words = narrowed_has o boundary (chain_at chains parent) words
+kind_has o chains (Kind.Impersonate parent accounts lifetime) words = impersonated_has o accounts lifetime (chain_at chains parent) words
+kind_has o chains (Kind.Delegate subject actor) words = delegated_has o (chain_at chains subject) (chain_at chains actor) words
 
 link_has : (links : List Link) (link : Option Link) → AllHaveWords (chains_of links) → IfSome link (λ one. are_words one.words ≡ true)
     → AllHaveWords (chains_of (with_link links link))
@@ -66,6 +80,8 @@ entry_has : (c : Content) (e : Entry) → IsEntry e → IfSome (link_of c e) (λ
 entry_has c (Put command) form = tt
 entry_has c (Federated x) form = source_has x (source_at c x.provider x.token x.at) form
 entry_has c (Narrow x) form = form.words
+entry_has c (Impersonate x) form = form.words
+entry_has c (Delegate x) form = form.words
 
 after_have : (c : Content) (es : List Entry) → AllHaveWords (chains_of c.links) → LawfulFrom c es → AllHaveWords (chains_of (state_after c es).links)
 after_have c [] have lawful = have

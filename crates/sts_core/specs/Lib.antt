@@ -1,7 +1,7 @@
 pub mod Answers
 pub mod Asked
 pub mod Check
-pub mod Forms
+pub mod Generated
 pub mod Machine
 pub mod Refusals
 pub mod Replies

@@ -18,7 +18,7 @@ use Rattle.sts_core.specs.Check.{check_decision, issued_chain}
 use Rattle.service_view.specs.declared.command.Command.{Command}
 use Rattle.sts_admin.specs.declared.command.CommandFault.{CommandFault}
 use Rattle.sts_admin.specs.Commands.{command_of}
-use Rattle.links.specs.declared.fault.RuleCode.{RuleCode}
+use Rattle.entry_rules.specs.declared.fault.RuleCode.{RuleCode}
 use Rattle.access_token.specs.Active.{active_text}
 use Rattle.links.specs.Chain.{Chain}
 use Rattle.links.specs.Facts.{facts_of}
@@ -26,10 +26,12 @@ use Rattle.links.specs.Licence.{first_unlicensed, prepared_of}
 use Rattle.links.specs.Authority.{live}
 use Rattle.links.specs.State.{Content, content_of}
 use Rattle.sts_core.specs.Asked.{asked_for}
-use Rattle.sts_core.specs.declared.exchange_rule.ExchangeRule.{ExchangeRule}
-use Rattle.sts_core.specs.Forms.{form_of, is_all_text, object_of, once}
-use Rattle.sts_core.specs.Refusals.{refusal_of, exchange_refusal, command_refusal}
-use Rattle.sts_core.specs.Replies.{u1, n1, n2, a1, bad_argument, decision_reply, not_built, inactive, issued, entered}
+use Rattle.exchange_form.specs.declared.exchange_rule.ExchangeRule.{ExchangeRule}
+use Rattle.exchange_form.specs.Forms.{form_of, is_all_text, object_of, once}
+use Rattle.sts_core.specs.Generated.{generated_for}
+use Rattle.sts_core.specs.declared.generate_rule.GenerateRule.{GenerateRule}
+use Rattle.sts_core.specs.Refusals.{refusal_of, exchange_refusal, generate_refusal, command_refusal}
+use Rattle.sts_core.specs.Replies.{u1, n1, n2, a1, bad_argument, decision_reply, inactive, issued, generated, entered}
 
 -- the reply to a request, and the entry that it adds to the journal, if any
 pub record Answer : Type 0 where
@@ -80,6 +82,22 @@ exchanged c (Ok entry) = ruled c entry (first_unlicensed c entry)
 abbrev pub exchange : Content → Request → ℕ → Answer
 exchange c request now = exchanged c (asked_for c (form_of request.body) now)
 
+-- ---- impersonation
+
+-- a rule forbids the entry, or the service account's token is issued
+abbrev pub generate_ruled : Content → Entry → Option RuleCode → Answer
+generate_ruled c entry (Some rule) = no_entry (refusal_of rule)
+generate_ruled c entry None = record { reply = generated (prepared_of c entry); entry = Some entry }
+
+-- a request that fails a rule is refused, and the entry that another asks for is ruled on
+abbrev pub generate_asked : Content → Result Entry GenerateRule → Answer
+generate_asked c (Err rule) = no_entry (generate_refusal rule)
+generate_asked c (Ok entry) = generate_ruled c entry (first_unlicensed c entry)
+
+-- the token of that service account is issued, where no rule forbids it
+abbrev pub generate : Content → List ℕ → Request → ℕ → Answer
+generate c account request now = generate_asked c (generated_for c account request now)
+
 -- ---- commands
 
 -- a rule forbids the command, or it is recorded
@@ -125,7 +143,7 @@ checking gate c request now = if is_bearer gate request.bearer then check_in c n
 -- the machine's answer to a request of a route
 abbrev pub step_of : Route → Config → Content → Request → ℕ → Answer
 step_of Token config c request now = exchange c request now
-step_of (Generate account) config c request now = no_entry not_built
+step_of (Generate account) config c request now = generate c account request now
 step_of Introspect config c request now = no_entry (introspection_reply config.gate c request now)
 step_of Check config c request now = no_entry (checking config.gate c request now)
 step_of Admin config c request now = administration config.admin c request

@@ -2,20 +2,47 @@
 use Rattle.std.specs.Prelude.{ℕ, ◌++◌, List, codes}
 use Rattle.std.specs.Fmt.{decimal}
 use Rattle.wif_base.specs.declared.request.Reply.{Reply}
-use Rattle.links.specs.declared.fault.RuleCode.{RuleCode}
-use Rattle.links.specs.Refusals.{rule_text, word_of}
+use Rattle.entry_rules.specs.declared.fault.RuleCode.{RuleCode}
+use Rattle.entry_rules.specs.declared.fault.RuleCode.TheVariants.{E11, E12, E14, E15, E16, E17, E18, E19, E20, E21, E22, E23, E24, E25, I5, I8, I9, I10, I11, A4, A6}
+use Rattle.entry_rules.specs.Refusals.{rule_text, word_of}
 use Rattle.sts_admin.specs.Names.{member_name}
 use Rattle.sts_admin.specs.declared.command.CommandFault.{CommandFault}
 use Rattle.sts_admin.specs.declared.command.CommandFault.TheVariants.{Kind, Field, Expression, Memory}
 use Rattle.boundary.specs.declared.fault.BoundaryCause.{BoundaryCause}
 use Rattle.boundary.specs.declared.fault.BoundaryCause.TheVariants as cause
-use Rattle.sts_core.specs.declared.exchange_rule.ExchangeRule.{ExchangeRule}
-use Rattle.sts_core.specs.declared.exchange_rule.ExchangeRule.TheVariants as exchange
-use Rattle.sts_core.specs.Replies.{refusal, bad_argument, not_built}
+use Rattle.exchange_form.specs.declared.exchange_rule.ExchangeRule.{ExchangeRule}
+use Rattle.exchange_form.specs.declared.exchange_rule.ExchangeRule.TheVariants as exchange
+use Rattle.sts_core.specs.declared.generate_rule.GenerateRule.{GenerateRule}
+use Rattle.sts_core.specs.declared.generate_rule.GenerateRule.TheVariants as generate
+use Rattle.sts_core.specs.Replies.{refusal, bad_argument}
 
--- the reply to what a rule forbids: its word, its code and its detail
+-- the status of a refusal by its rule: 403 where a service account may not be impersonated
+abbrev pub status_of : RuleCode → ℕ
+status_of E11 = 400
+status_of (E12 rule) = 400
+status_of E14 = 400
+status_of E15 = 400
+status_of (E16 fault) = 400
+status_of (E17 fault) = 400
+status_of (E18 fault) = 400
+status_of (E19 fault) = 400
+status_of (E20 fault) = 400
+status_of E21 = 400
+status_of E22 = 400
+status_of E23 = 400
+status_of E24 = 400
+status_of E25 = 400
+status_of I5 = 400
+status_of (I8 hop) = 403
+status_of (I9 hop) = 403
+status_of I10 = 400
+status_of I11 = 400
+status_of A4 = 400
+status_of A6 = 400
+
+-- the reply to what a rule forbids: its status, its word, its code and its detail
 abbrev pub refusal_of : RuleCode → Reply
-refusal_of rule = refusal 400 (word_of rule) (rule_text rule)
+refusal_of rule = refusal (status_of rule) (word_of rule) (rule_text rule)
 
 -- ---- exchanges
 
@@ -46,8 +73,23 @@ exchange_refusal exchange.E10 = refusal 400 (codes "invalid_target") (codes "E10
 exchange_refusal exchange.Options = invalid_request (codes "E12 Json")
 exchange_refusal (exchange.Boundary rule cause) = invalid_request (codes "E12 " ++ (cause_text cause ++ (codes " " ++ decimal rule)))
 exchange_refusal exchange.E13 = invalid_request (codes "E13")
-exchange_refusal exchange.Unbuilt = not_built
 exchange_refusal (exchange.Unlicensed rule) = refusal_of rule
+
+-- ---- impersonations
+
+-- the bearer's token isn't there or isn't live
+abbrev pub invalid_token : List ℕ → Reply
+invalid_token text = refusal 401 (codes "invalid_token") text
+
+-- the reply to a request for a service account's token that fails the rule
+abbrev pub generate_refusal : GenerateRule → Reply
+generate_refusal generate.I1 = invalid_token (codes "I1")
+generate_refusal generate.I2 = bad_argument (codes "I2")
+generate_refusal generate.I3 = bad_argument (codes "I3")
+generate_refusal generate.I4 = bad_argument (codes "I4")
+generate_refusal generate.I5 = bad_argument (codes "I5")
+generate_refusal generate.I6 = bad_argument (codes "I6")
+generate_refusal generate.I7 = invalid_token (codes "I7")
 
 -- ---- commands that have no form
 

@@ -1,9 +1,11 @@
 -- The replies of the service.
-use Rattle.std.specs.Prelude.{ℕ, ◌-◌, List, [], ◌++◌, codes, Option, None, Some, unwrap_or}
+use Rattle.std.specs.Prelude.{ℕ, pos, ◌-◌, List, [], ◌++◌, codes, Option, None, Some, unwrap_or}
 use Rattle.std.specs.Fmt.{decimal}
+use Rattle.cel_builtins.specs.Timestamps.{moment_text}
 use Rattle.serde_json.specs.Data.{Data, number, unsigned, string, object, member, no_members}
 use Rattle.serde_json.specs.Written.{compact_text}
 use Rattle.access_token.specs.Payload.{words_text, last_words}
+use Rattle.exchange_form.specs.FormRules.{access_token_type}
 use Rattle.links.specs.declared.recorded.RecordedLink.{RecordedLink}
 use Rattle.links.specs.Prepared.{PreparedEntry}
 use Rattle.wif_base.specs.declared.request.Reply.{Reply}
@@ -39,10 +41,6 @@ bad_argument text = refusal 400 (codes "invalid_argument") text
 abbrev pub a1 : Reply
 a1 = bad_argument (codes "A1")
 
--- a request of a form that isn't built yet
-abbrev pub not_built : Reply
-not_built = refusal 501 (codes "not_built") (codes "Z1")
-
 -- a path without a route
 abbrev pub not_found : Reply
 not_found = refusal 404 (codes "not_found") (codes "H4")
@@ -52,10 +50,6 @@ abbrev pub inactive : Reply
 inactive = record { status = 200; body = codes "{\"active\":false}" }
 
 -- ---- a token that is issued (RFC 8693, section 2.2.1)
-
--- the type of the token that is issued (RFC 8693, section 3)
-abbrev pub access_token_type : List ℕ
-access_token_type = codes "urn:ietf:params:oauth:token-type:access_token"
 
 -- the members of the reply to an exchange (RFC 8693, section 2.2.1)
 unfoldable pub issued_data : List ℕ → ℕ → List ℕ → Data
@@ -78,6 +72,23 @@ issued_by token (Some link) = token_reply token (link.facts.exp - link.facts.iat
 -- the reply to an exchange that is recorded: its entry has a link with a token
 unfoldable pub issued : PreparedEntry → Reply
 issued prepared = issued_by (unwrap_or prepared.token []) prepared.recorded
+
+-- ---- a service account's token
+
+-- the token, and the moment at which it ends (RFC 3339)
+unfoldable pub generated_data : List ℕ → List ℕ → Data
+generated_data token time = object (
+    member (codes "accessToken") (string token) (
+    member (codes "expireTime") (string time) no_members))
+
+-- the token's text, and the moment at which its link ends
+abbrev pub generated_by : List ℕ → Option RecordedLink → Reply
+generated_by token None = record { status = 200; body = compact_text (generated_data token (moment_text (pos 0))) }
+generated_by token (Some link) = record { status = 200; body = compact_text (generated_data token (moment_text (pos link.facts.exp))) }
+
+-- the reply to an impersonation that is recorded: its entry has a link with a token
+unfoldable pub generated : PreparedEntry → Reply
+generated prepared = generated_by (unwrap_or prepared.token []) prepared.recorded
 
 -- ---- a command that is recorded: its entry's number, counted from 0
 

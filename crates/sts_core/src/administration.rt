@@ -5,15 +5,16 @@ ghost use Rattle.sts_admin.specs.Commands.{command_of};
 ghost use Rattle.sts_core.specs.Machine.{administration, command_in, commanded, with_entry};
 
 use crate::Stop;
-use crate::body::read_object;
 use crate::introspection::is_bearer;
-use crate::refusal::{command_refused, refusal_of};
+use crate::recording::{entry_refused, record};
+use crate::refusal::command_refused;
 use crate::reply::{bad_argument, entered, no_bearer};
 use base_types::Text;
-use links::{ApplyFault, Entry, State, commit, prepare};
+use exchange_form::read_object;
+use links::{Entry, State, prepare};
 use serde_json::Value;
 use service_view::Command;
-use std::alloc::{AllocError, Global};
+use std::alloc::Global;
 use sts_admin::{CommandFault, read_command};
 use wif_base::{Reply, Request};
 
@@ -65,17 +66,7 @@ fn enter(alloc: Global, state: &mut State, command: Command) -> Result<Reply, St
     command.has_its_form();
     let number = state.entry_count();
     match prepare(alloc, state, Entry::Put(command)) {
-        Ok(prepared) => match entered(alloc, number) {
-            Ok(reply) => {
-                commit(state, prepared);
-                Ok(reply)
-            }
-            Err(AllocError) => {
-                drop(prepared);
-                Err(Stop::Memory)
-            }
-        },
-        Err(ApplyFault::Unlicensed { rule }) => Ok(refusal_of(alloc, &rule)?),
-        Err(ApplyFault::Memory) => Err(Stop::Memory),
+        Ok(prepared) => record(state, prepared, entered(alloc, number)),
+        Err(fault) => entry_refused(alloc, fault),
     }
 }

@@ -1,23 +1,26 @@
-ghost use Rattle.std.specs.Prelude.{◌≡◌, ◌<◌, ◌&&◌, ◌||◌, ◌∷◌, [], IfOk, IfErr, codes, length, not, option_map, unwrap_or};
-ghost use Rattle.base_types.specs.Rules.{fails_if, first_of};
+ghost use Rattle.std.specs.Prelude.{◌≡◌, ◌<◌, ◌&&◌, ◌||◌, ◌∷◌, [], IfOk, IfErr, IfSome, codes, length, not, option_map, unwrap_or};
+ghost use Rattle.base_types.specs.Rules.{fails_if};
 ghost use Rattle.base_types.specs.Steps.{needed};
-ghost use Rattle.links.specs.Issued.{issued_link};
 ghost use Rattle.links.specs.State.{chain};
-ghost use Rattle.links.specs.declared.fault.RuleCode.TheVariants.{E14 as unknown_provider, E21 as unknown_token};
+ghost use Rattle.entry_rules.specs.declared.fault.RuleCode.TheVariants.{E14 as unknown_provider, E21 as unknown_token, E22 as unknown_actor};
+ghost use Rattle.exchange_form.specs.FormRules.{unless};
+ghost use Rattle.exchange_form.specs.Forms as forms;
+ghost use Rattle.exchange_form.specs.declared.exchange_rule.ExchangeRule.TheVariants as rules;
 ghost use Rattle.service_view.specs.View.{cloud_platform};
 ghost use Rattle.sts_core.specs.Answers.{Gives};
 ghost use Rattle.sts_core.specs.Asked as asked;
-ghost use Rattle.sts_core.specs.Forms as forms;
-ghost use Rattle.sts_core.specs.declared.exchange_rule.ExchangeRule.TheVariants as rules;
 
-use crate::exchange_rule::{ExchangeRule, ExchangeStop};
-use crate::form::{Parameter, is_absent, once};
-use crate::form_rules::{failing_form_rule, is_from_outside};
 use crate::options::{asked_boundary, asked_words, unlicensed};
+use crate::rule_stop::RuleStop;
 use base_types::{Items, Text, both};
 use boundary::Boundary;
+use derived_facts::copy_words;
+use entry_rules::RuleCode;
+use exchange_form::{ExchangeRule, Parameter, failing_form_rule, is_absent, is_from_outside, once};
 use iam_names::{Audience, NameError, ScopeWord};
-use links::{Entry, Exchange, Narrowing, RuleCode, State, all_permissions, find_issued, words_of};
+use links::{
+    Delegation, Entry, Exchange, Narrowing, State, all_permissions, find_issued, live, words_of,
+};
 use std::alloc::{AllocError, Global};
 
 /// The entry that an exchange asks for, or the first rule that it fails.
@@ -27,43 +30,37 @@ pub(crate) fn asked_for(
     state: &State,
     form: &[Parameter],
     now: u64,
-) -> Result<Entry, ExchangeStop>
+) -> Result<Entry, RuleStop<ExchangeRule>>
     ensures { Gives result (asked.asked_for state.now.content form.now now) }
 {
     if let Some(rule) = failing_form_rule(form) {
-        return Err(ExchangeStop::Refused(rule));
+        return Err(RuleStop::Refused(rule));
     }
     let words = asked_words(alloc, state, once(form, "scope"));
     let boundary = asked_boundary(alloc, state, once(form, "options"));
     let (words, boundary) = both(words, boundary)?;
-    if let Some(rule) = failing_joint_rule(form, &boundary) {
+    if is_mixed(form, &boundary) {
         drop(words);
         drop(boundary);
-        return Err(ExchangeStop::Refused(rule));
+        return Err(RuleStop::Refused(ExchangeRule::E13));
     }
     let Some(token) = once(form, "subject_token") else {
         drop(words);
         drop(boundary);
-        return Err(ExchangeStop::Refused(ExchangeRule::E5));
+        return Err(RuleStop::Refused(ExchangeRule::E5));
     };
     entry_of(alloc, state, form, token, words, boundary, now)
 }
 
-// The first rule on what may not be asked for together that the exchange fails.
-fn failing_joint_rule(form: &[Parameter], boundary: &Option<Boundary>) -> Option<ExchangeRule>
-    ensures { result ≡ first_of (asked.joint_rules form.now boundary.now) }
+// Whether the exchange asks for what may not be asked for together.
+fn is_mixed(form: &[Parameter], boundary: &Option<Boundary>) -> bool
+    ensures { result ≡ asked.is_mixed form.now boundary.now }
 {
     let has_actor = !is_absent(form, "actor_token");
-    if is_mixed(is_from_outside(form), boundary.is_some(), has_actor) {
-        return Some(ExchangeRule::E13);
-    }
-    if has_actor {
-        return Some(ExchangeRule::Unbuilt);
-    }
-    None
+    mixes(is_from_outside(form), boundary.is_some(), has_actor)
 }
 
-fn is_mixed(is_outside: bool, has_boundary: bool, has_actor: bool) -> bool
+fn mixes(is_outside: bool, has_boundary: bool, has_actor: bool) -> bool
     ensures { result ≡ (is_outside && (has_boundary || has_actor)) || (has_boundary && has_actor) }
 {
     (is_outside && (has_boundary || has_actor)) || (has_boundary && has_actor)
@@ -78,14 +75,14 @@ fn entry_of(
     words: Option<Items<ScopeWord>>,
     boundary: Option<Boundary>,
     now: u64,
-) -> Result<Entry, ExchangeStop>
+) -> Result<Entry, RuleStop<ExchangeRule>>
     ensures { Gives result (asked.entry_of state.now.content form.now token.now words boundary now) }
 {
     if is_from_outside(form) {
         drop(boundary);
         return outside_entry(alloc, form, token, words, now);
     }
-    narrow_entry(alloc, state, form, token, words, boundary, now)
+    access_entry(alloc, state, form, token, words, boundary, now)
 }
 
 // The exchange of a subject token from outside, for these words or for all permissions.
@@ -95,13 +92,13 @@ fn outside_entry(
     token: &str,
     words: Option<Items<ScopeWord>>,
     now: u64,
-) -> Result<Entry, ExchangeStop>
+) -> Result<Entry, RuleStop<ExchangeRule>>
     ensures { Gives result (asked.outside_entry form.now token.now words now) }
 {
     let provider = provider_in(alloc, once(form, "audience"));
-    let token = copied(alloc, token);
-    let scope = words_or_all(alloc, words);
-    let (provider, (token, scope)) = both(provider, both(token, scope))?;
+    let (provider, words) = both(provider, Ok(words))?;
+    let texts = both(Text::copy_of(alloc, token), words_or_all(alloc, words));
+    let (provider, (token, scope)) = both(Ok(provider), texts)?;
     Ok(Entry::Federated(Exchange {
         provider,
         token,
@@ -110,15 +107,8 @@ fn outside_entry(
     }))
 }
 
-fn copied(alloc: Global, token: &str) -> Result<Text, ExchangeStop>
-    ensures text { IfOk result (λ text. text ≡ token.now) }
-    ensures memory { IfErr result (λ stop. stop ≡ ExchangeStop.Memory) }
-{
-    Ok(Text::copy_of(alloc, token)?)
-}
-
 // The provider's name that an audience is.
-fn provider_in(alloc: Global, audience: Option<&str>) -> Result<Audience, ExchangeStop>
+fn provider_in(alloc: Global, audience: Option<&str>) -> Result<Audience, RuleStop<ExchangeRule>>
     ensures { Gives result (needed (rules.Unlicensed unknown_provider)
         (asked.named_provider (option_map (λ text. text.now) audience.entry))) }
 {
@@ -128,7 +118,7 @@ fn provider_in(alloc: Global, audience: Option<&str>) -> Result<Audience, Exchan
     match Audience::read(alloc, audience) {
         Ok(provider) => Ok(provider),
         Err(NameError::Form) => Err(unlicensed(RuleCode::E14)),
-        Err(NameError::Memory) => Err(ExchangeStop::Memory),
+        Err(NameError::Memory) => Err(RuleStop::Memory),
     }
 }
 
@@ -136,18 +126,17 @@ fn provider_in(alloc: Global, audience: Option<&str>) -> Result<Audience, Exchan
 fn words_or_all(
     alloc: Global,
     words: Option<Items<ScopeWord>>,
-) -> Result<Items<ScopeWord>, ExchangeStop>
-    ensures words { IfOk result (λ scope. scope ≡ unwrap_or words (cloud_platform ∷ [])) }
-    ensures memory { IfErr result (λ stop. stop ≡ ExchangeStop.Memory) }
+) -> Result<Items<ScopeWord>, AllocError>
+    ensures { IfOk result (λ scope. scope ≡ unwrap_or words (cloud_platform ∷ [])) }
 {
     match words {
         Some(words) => Ok(words),
-        None => Ok(all_permissions(alloc)?),
+        None => all_permissions(alloc),
     }
 }
 
-// The narrowing of an access token that was issued, for these words or for its own.
-fn narrow_entry(
+// The entry of an access token that was issued, for these words or for its own.
+fn access_entry(
     alloc: Global,
     state: &State,
     form: &[Parameter],
@@ -155,38 +144,35 @@ fn narrow_entry(
     words: Option<Items<ScopeWord>>,
     boundary: Option<Boundary>,
     now: u64,
-) -> Result<Entry, ExchangeStop>
-    ensures { Gives result (asked.narrow_entry state.now.content form.now token.now words boundary now) }
+) -> Result<Entry, RuleStop<ExchangeRule>>
+    ensures { Gives result (asked.access_entry state.now.content form.now token.now words boundary now) }
 {
-    let parent = parent_of(alloc, state, form, token);
-    let (parent, (words, boundary)) = both(parent, Ok((words, boundary)))?;
-    let scope = words_or_own(alloc, state, parent, words);
+    let subject = subject_of(alloc, state, form, token, now);
+    let (subject, (words, boundary)) = both(subject, Ok((words, boundary)))?;
+    let scope = words_or_own(alloc, state, subject, words);
     let (scope, boundary) = both(scope, Ok(boundary))?;
-    Ok(Entry::Narrow(Narrowing {
-        parent,
-        boundary,
-        scope,
-        at: now,
-    }))
+    let actor = once(form, "actor_token");
+    derived_entry(alloc, state, subject, actor, scope, boundary, now)
 }
 
-// The number of the link whose token is exchanged, without an audience.
-fn parent_of(
+// The number of the live link whose token is exchanged, without an audience.
+fn subject_of(
     alloc: Global,
     state: &State,
     form: &[Parameter],
     token: &str,
-) -> Result<u32, ExchangeStop>
-    ensures gives { Gives result (asked.unless
+    now: u64,
+) -> Result<u32, RuleStop<ExchangeRule>>
+    ensures gives { Gives result (unless
         (fails_if (not (forms.is_absent form.now (codes "audience"))) (rules.Unlicensed unknown_provider))
-        (needed (rules.Unlicensed unknown_token) (issued_link state.now.content token.now))) }
-    ensures within { IfOk result (λ parent. parent < length state.now.content.links) }
+        (needed (rules.Unlicensed unknown_token) (asked.live_issued state.now.content now token.now))) }
+    ensures within { IfOk result (λ subject. subject < length state.now.content.links) }
 {
     if !is_absent(form, "audience") {
         return Err(unlicensed(RuleCode::E14));
     }
-    match find_issued(alloc, state, token)? {
-        Some(parent) => Ok(parent),
+    match live_issued(alloc, state, token, now)? {
+        Some(subject) => Ok(subject),
         None => Err(unlicensed(RuleCode::E21)),
     }
 }
@@ -197,23 +183,77 @@ fn words_or_own(
     state: &State,
     number: u32,
     words: Option<Items<ScopeWord>>,
-) -> Result<Items<ScopeWord>, ExchangeStop>
+) -> Result<Items<ScopeWord>, AllocError>
     requires { number < length state.now.content.links }
-    ensures words { IfOk result (λ scope. scope ≡ unwrap_or words (asked.words_of (chain state.now.content number))) }
-    ensures memory { IfErr result (λ stop. stop ≡ ExchangeStop.Memory) }
+    ensures { IfOk result (λ scope. scope ≡ unwrap_or words (asked.words_of (chain state.now.content number))) }
 {
     match words {
         Some(words) => Ok(words),
-        None => Ok(copied_words(alloc, words_of(state, number))?),
+        None => copy_words(alloc, words_of(state, number)),
     }
 }
 
-fn copied_words(alloc: Global, words: &[ScopeWord]) -> Result<Items<ScopeWord>, AllocError>
-    ensures { IfOk result (λ copy. copy ≡ words.now) }
+// The entry of a live link's token: a narrowing, or a delegation where there is an actor's token.
+fn derived_entry(
+    alloc: Global,
+    state: &State,
+    subject: u32,
+    actor: Option<&str>,
+    scope: Items<ScopeWord>,
+    boundary: Option<Boundary>,
+    now: u64,
+) -> Result<Entry, RuleStop<ExchangeRule>>
+    ensures { Gives result (asked.derived_entry state.now.content subject (option_map (λ text. text.now) actor.entry) scope boundary now) }
 {
-    let mut copy = Items::new(alloc);
-    for word in words {
-        copy.push(word.copy(alloc)?)?;
+    let Some(token) = actor else {
+        return Ok(Entry::Narrow(Narrowing {
+            parent: subject,
+            boundary,
+            scope,
+            at: now,
+        }));
+    };
+    drop(boundary);
+    let actor = actor_of(alloc, state, token, now);
+    let (actor, scope) = both(actor, Ok(scope))?;
+    Ok(Entry::Delegate(Delegation {
+        subject,
+        actor,
+        scope,
+        at: now,
+    }))
+}
+
+// The number of the live link whose token is the actor's.
+fn actor_of(
+    alloc: Global,
+    state: &State,
+    token: &str,
+    now: u64,
+) -> Result<u32, RuleStop<ExchangeRule>>
+    ensures { Gives result (needed (rules.Unlicensed unknown_actor) (asked.live_issued state.now.content now token.now)) }
+{
+    match live_issued(alloc, state, token, now)? {
+        Some(actor) => Ok(actor),
+        None => Err(unlicensed(RuleCode::E22)),
     }
-    Ok(copy)
+}
+
+/// The number of the live link that a token was issued for.
+pub(crate) fn live_issued(
+    alloc: Global,
+    state: &State,
+    token: &str,
+    now: u64,
+) -> Result<Option<u32>, AllocError>
+    ensures number { IfOk result (λ found. found ≡ asked.live_issued state.now.content now token.now) }
+    ensures within { IfOk result (λ found. IfSome found (λ number. number < length state.now.content.links)) }
+{
+    let Some(number) = find_issued(alloc, state, token)? else {
+        return Ok(None);
+    };
+    if live(state, number, now) {
+        return Ok(Some(number));
+    }
+    Ok(None)
 }

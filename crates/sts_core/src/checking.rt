@@ -4,10 +4,10 @@ ghost use Rattle.sts_core.specs.Check.{check_decision};
 ghost use Rattle.sts_core.specs.Machine.{checking, check_in};
 ghost use Rattle.sts_core.specs.Replies.{decision_reply};
 
-use crate::body::read_object;
 use crate::introspection::is_bearer;
 use crate::reply::{bad_argument, decided, no_bearer};
 use base_types::Text;
+use exchange_form::read_object;
 use grant_gate::{Decision, decide};
 use iam_names::{Permission, PermissionForm, Resource, ResourceForm};
 use json_text::text_at;

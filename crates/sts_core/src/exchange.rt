@@ -5,12 +5,13 @@ ghost use Rattle.sts_core.specs.Machine.{exchange as exchange_of, exchanged, wit
 
 use crate::Stop;
 use crate::asking::asked_for;
-use crate::exchange_rule::ExchangeStop;
-use crate::form::read_form;
-use crate::refusal::{exchange_refused, refusal_of};
+use crate::recording::{entry_refused, record};
+use crate::refusal::exchange_refused;
 use crate::reply::issued;
-use links::{ApplyFault, Entry, State, commit, prepare};
-use std::alloc::{AllocError, Global};
+use crate::rule_stop::RuleStop;
+use exchange_form::read_form;
+use links::{Entry, State, prepare};
+use std::alloc::Global;
 use wif_base::{Reply, Request};
 
 /// Answers an exchange of a subject token for an access token (RFC 8693).
@@ -32,12 +33,12 @@ pub(crate) fn exchange(
     drop(form);
     match asked {
         Ok(entry) => issue(alloc, state, entry),
-        Err(ExchangeStop::Refused(rule)) => {
+        Err(RuleStop::Refused(rule)) => {
             let reply = exchange_refused(alloc, &rule);
             drop(rule);
             Ok(reply?)
         }
-        Err(ExchangeStop::Memory) => Err(Stop::Memory),
+        Err(RuleStop::Memory) => Err(Stop::Memory),
     }
 }
 
@@ -50,21 +51,10 @@ fn issue(alloc: Global, state: &mut State, entry: Entry) -> Result<Reply, Stop>
     ensures refused { OnErr result (state.new.content ≡ state.old.content) }
 {
     match prepare(alloc, state, entry) {
-        Ok(prepared) => match issued(alloc, &prepared) {
-            Ok(reply) => {
-                commit(state, prepared);
-                Ok(reply)
-            }
-            Err(AllocError) => {
-                drop(prepared);
-                Err(Stop::Memory)
-            }
-        },
-        Err(ApplyFault::Unlicensed { rule }) => {
-            let reply = refusal_of(alloc, &rule);
-            drop(rule);
-            Ok(reply?)
+        Ok(prepared) => {
+            let reply = issued(alloc, &prepared);
+            record(state, prepared, reply)
         }
-        Err(ApplyFault::Memory) => Err(Stop::Memory),
+        Err(fault) => entry_refused(alloc, fault),
     }
 }

@@ -2,19 +2,20 @@ ghost use Rattle.std.specs.Prelude.{◌≡◌, option_map};
 ghost use Rattle.base_types.specs.Steps.{needed};
 ghost use Rattle.boundary.specs.Boundaries.{boundary_of};
 ghost use Rattle.serde_json.specs.View.{view};
-ghost use Rattle.links.specs.declared.fault.RuleCode.TheVariants.{E11 as unknown_word};
+ghost use Rattle.entry_rules.specs.declared.fault.RuleCode.TheVariants.{E11 as unknown_word};
 ghost use Rattle.sts_core.specs.Answers.{Gives};
 ghost use Rattle.sts_core.specs.Asked as asked;
-ghost use Rattle.sts_core.specs.declared.exchange_rule.ExchangeRule.TheVariants as rules;
+ghost use Rattle.exchange_form.specs.declared.exchange_rule.ExchangeRule.TheVariants as rules;
 
-use crate::body::read_object;
-use crate::exchange_rule::{ExchangeRule, ExchangeStop};
+use crate::rule_stop::RuleStop;
 use access_token::read_words;
 use base_types::Items;
 use boundary::{Boundary, BoundaryError, read_boundary};
+use entry_rules::RuleCode;
+use exchange_form::{ExchangeRule, read_object};
 use iam_names::ScopeWord;
 use json_text::ReadFault;
-use links::{RuleCode, State, knows_words, unknown_role};
+use links::{State, knows_words, unknown_role};
 use serde_json::Value;
 use std::alloc::Global;
 
@@ -24,7 +25,7 @@ pub(crate) fn asked_words(
     alloc: Global,
     state: &State,
     scope: Option<&str>,
-) -> Result<Option<Items<ScopeWord>>, ExchangeStop>
+) -> Result<Option<Items<ScopeWord>>, RuleStop<ExchangeRule>>
     ensures { Gives result (asked.asked_words state.now.content (option_map (λ text. text.now) scope.entry)) }
 {
     let Some(text) = scope else {
@@ -34,7 +35,11 @@ pub(crate) fn asked_words(
 }
 
 // Scope words that are all there.
-fn known_words(alloc: Global, state: &State, text: &str) -> Result<Items<ScopeWord>, ExchangeStop>
+fn known_words(
+    alloc: Global,
+    state: &State,
+    text: &str,
+) -> Result<Items<ScopeWord>, RuleStop<ExchangeRule>>
     ensures { Gives result (needed (rules.Unlicensed unknown_word) (asked.known_words state.now.content text.now)) }
 {
     match read_words(alloc, text) {
@@ -46,15 +51,15 @@ fn known_words(alloc: Global, state: &State, text: &str) -> Result<Items<ScopeWo
             Err(unlicensed(RuleCode::E11))
         }
         Err(ReadFault::Form) => Err(unlicensed(RuleCode::E11)),
-        Err(ReadFault::Memory) => Err(ExchangeStop::Memory),
+        Err(ReadFault::Memory) => Err(RuleStop::Memory),
     }
 }
 
 /// The rule forbids the entry that is asked for.
-pub(crate) fn unlicensed(rule: RuleCode) -> ExchangeStop
-    ensures { result ≡ ExchangeStop.Refused (rules.Unlicensed rule) }
+pub(crate) fn unlicensed(rule: RuleCode) -> RuleStop<ExchangeRule>
+    ensures { result ≡ RuleStop.Refused (rules.Unlicensed rule) }
 {
-    ExchangeStop::Refused(ExchangeRule::Unlicensed(rule))
+    RuleStop::Refused(ExchangeRule::Unlicensed(rule))
 }
 
 /// The access boundary of the options, which are a JSON object.
@@ -63,7 +68,7 @@ pub(crate) fn asked_boundary(
     alloc: Global,
     state: &State,
     options: Option<&str>,
-) -> Result<Option<Boundary>, ExchangeStop>
+) -> Result<Option<Boundary>, RuleStop<ExchangeRule>>
     ensures { Gives result (asked.asked_boundary state.now.content (option_map (λ text. text.now) options.entry)) }
 {
     let Some(text) = options else {
@@ -75,7 +80,7 @@ pub(crate) fn asked_boundary(
             drop(json);
             boundary
         }
-        None => Err(ExchangeStop::Refused(ExchangeRule::Options)),
+        None => Err(RuleStop::Refused(ExchangeRule::Options)),
     }
 }
 
@@ -83,7 +88,7 @@ fn boundary_under(
     alloc: Global,
     state: &State,
     json: Option<&Value>,
-) -> Result<Option<Boundary>, ExchangeStop>
+) -> Result<Option<Boundary>, RuleStop<ExchangeRule>>
     ensures { Gives result (asked.boundary_under state.now.content (option_map (λ json. view json.now) json.entry)) }
 {
     let Some(json) = json else {
@@ -93,20 +98,23 @@ fn boundary_under(
     known_boundary(state, boundary)
 }
 
-fn boundary_in(alloc: Global, json: &Value) -> Result<Boundary, ExchangeStop>
+fn boundary_in(alloc: Global, json: &Value) -> Result<Boundary, RuleStop<ExchangeRule>>
     ensures { Gives result (asked.read_boundary (boundary_of (view json.now))) }
 {
     match read_boundary(alloc, json) {
         Ok(boundary) => Ok(boundary),
         Err(BoundaryError::Fault { rule, cause }) => {
-            Err(ExchangeStop::Refused(ExchangeRule::Boundary { rule, cause }))
+            Err(RuleStop::Refused(ExchangeRule::Boundary { rule, cause }))
         }
-        Err(BoundaryError::Memory) => Err(ExchangeStop::Memory),
+        Err(BoundaryError::Memory) => Err(RuleStop::Memory),
     }
 }
 
 // The boundary, where its roles are all there.
-fn known_boundary(state: &State, boundary: Boundary) -> Result<Option<Boundary>, ExchangeStop>
+fn known_boundary(
+    state: &State,
+    boundary: Boundary,
+) -> Result<Option<Boundary>, RuleStop<ExchangeRule>>
     ensures { Gives result (asked.known_boundary state.now.content boundary) }
 {
     match unknown_role(state, &boundary) {

@@ -1,12 +1,13 @@
 ghost use Rattle.std.specs.Prelude.{◌≡◌, IfOk};
 ghost use Rattle.sts_core.specs.Refusals as refusals;
-ghost use Rattle.sts_core.specs.declared.exchange_rule.ExchangeRule.TheVariants as rules;
+ghost use Rattle.exchange_form.specs.declared.exchange_rule.ExchangeRule.TheVariants as rules;
 
-use crate::exchange_rule::ExchangeRule;
-use crate::reply::{bad_argument, not_built, refused};
+use crate::generate_rule::GenerateRule;
+use crate::reply::{bad_argument, refused};
 use base_types::Text;
 use boundary::BoundaryCause;
-use links::RuleCode;
+use entry_rules::RuleCode;
+use exchange_form::ExchangeRule;
 use std::alloc::{AllocError, Global};
 use sts_admin::CommandFault;
 use wif_base::Reply;
@@ -16,7 +17,35 @@ pub(crate) fn refusal_of(alloc: Global, rule: &RuleCode) -> Result<Reply, AllocE
     ensures { IfOk result (λ reply. reply ≡ refusals.refusal_of rule.now) }
 {
     let text = rule.text(alloc)?;
-    refused(alloc, 400, rule.word(), text.as_str())
+    refused(alloc, status_of(rule), rule.word(), text.as_str())
+}
+
+// 403 where a service account may not be impersonated.
+fn status_of(rule: &RuleCode) -> u16
+    ensures { result ≡ refusals.status_of rule.now }
+{
+    match rule {
+        RuleCode::I8 { .. } | RuleCode::I9 { .. } => 403,
+        RuleCode::E11
+        | RuleCode::E12 { .. }
+        | RuleCode::E14
+        | RuleCode::E15
+        | RuleCode::E16(_)
+        | RuleCode::E17(_)
+        | RuleCode::E18(_)
+        | RuleCode::E19(_)
+        | RuleCode::E20(_)
+        | RuleCode::E21
+        | RuleCode::E22
+        | RuleCode::E23
+        | RuleCode::E24
+        | RuleCode::E25
+        | RuleCode::I5
+        | RuleCode::I10
+        | RuleCode::I11
+        | RuleCode::A4
+        | RuleCode::A6 => 400,
+    }
 }
 
 /// The reply to an exchange that fails the rule (RFC 8693, section 2.2.2).
@@ -37,7 +66,6 @@ pub(crate) fn exchange_refused(alloc: Global, rule: &ExchangeRule) -> Result<Rep
         ExchangeRule::Options => invalid_request(alloc, "E12 Json"),
         ExchangeRule::Boundary { rule, cause } => boundary_refused(alloc, *rule, *cause),
         ExchangeRule::E13 => invalid_request(alloc, "E13"),
-        ExchangeRule::Unbuilt => not_built(alloc),
         ExchangeRule::Unlicensed(code) => refusal_of(alloc, code),
     }
 }
@@ -67,6 +95,21 @@ fn cause_name(cause: BoundaryCause) -> &'static str
         BoundaryCause::Resource => "Resource",
         BoundaryCause::Permission => "Permission",
         BoundaryCause::Condition => "Condition",
+    }
+}
+
+/// The reply to a request for a service account's token that fails the rule.
+pub(crate) fn generate_refused(alloc: Global, rule: GenerateRule) -> Result<Reply, AllocError>
+    ensures { IfOk result (λ reply. reply ≡ refusals.generate_refusal rule) }
+{
+    match rule {
+        GenerateRule::I1 => refused(alloc, 401, "invalid_token", "I1"),
+        GenerateRule::I2 => bad_argument(alloc, "I2"),
+        GenerateRule::I3 => bad_argument(alloc, "I3"),
+        GenerateRule::I4 => bad_argument(alloc, "I4"),
+        GenerateRule::I5 => bad_argument(alloc, "I5"),
+        GenerateRule::I6 => bad_argument(alloc, "I6"),
+        GenerateRule::I7 => refused(alloc, 401, "invalid_token", "I7"),
     }
 }
 

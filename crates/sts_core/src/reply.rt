@@ -1,4 +1,5 @@
-ghost use Rattle.std.specs.Prelude.{◌≡◌, ◌-◌, IfOk, OnOk};
+ghost use Rattle.std.specs.Prelude.{◌≡◌, ◌≤◌, ◌-◌, pos, IfOk, IfSome, OnOk};
+ghost use Rattle.cel_builtins.specs.Timestamps.{moment_text};
 ghost use Rattle.serde_json.specs.Data.{object, no_members};
 ghost use Rattle.serde_json.specs.View.{members_view};
 ghost use Rattle.serde_json.specs.Written.{compact_text};
@@ -6,6 +7,8 @@ ghost use Rattle.sts_core.specs.Replies as replies;
 
 use access_token::{last_words, words_text};
 use base_types::{Bytes, Text};
+use cel_builtins::time_text;
+use exchange_form::ACCESS_TOKEN_TYPE;
 use grant_gate::{Decision, GateRule};
 use iam_names::ScopeWord;
 use json_text::put_text;
@@ -13,9 +16,6 @@ use links::Prepared;
 use serde_json::{Map, Value};
 use std::alloc::{AllocError, Global};
 use wif_base::Reply;
-
-/// The type of the tokens that are issued (RFC 8693, section 3).
-pub(crate) const ACCESS_TOKEN_TYPE: &str = "urn:ietf:params:oauth:token-type:access_token";
 
 fn reply_of(alloc: Global, status: u16, body: &[u8]) -> Result<Reply, AllocError>
     ensures { IfOk result (λ reply. reply ≡ record { status = status; body = body.now }) }
@@ -34,16 +34,6 @@ pub fn not_found(alloc: Global) -> Result<Reply, AllocError>
         alloc,
         404,
         b"{\"error\":\"not_found\",\"error_description\":\"H4\"}",
-    )
-}
-
-pub(crate) fn not_built(alloc: Global) -> Result<Reply, AllocError>
-    ensures { IfOk result (λ reply. reply ≡ replies.not_built) }
-{
-    reply_of(
-        alloc,
-        501,
-        b"{\"error\":\"not_built\",\"error_description\":\"Z1\"}",
     )
 }
 
@@ -180,6 +170,49 @@ fn put_issued(
     put_text(alloc, members, "issued_token_type", ACCESS_TOKEN_TYPE)?;
     put_text(alloc, members, "scope", scope)?;
     put_text(alloc, members, "token_type", "Bearer")
+}
+
+/// The reply to an impersonation whose entry was prepared.
+#[tactic(auto, unfolding(crate::specs::Replies::generated))]
+pub(crate) fn generated(alloc: Global, prepared: &Prepared) -> Result<Reply, AllocError>
+    requires { IfSome prepared.now.recorded (λ link. link.facts.exp ≤ 200_000_003_600) }
+    ensures { IfOk result (λ reply. reply ≡ replies.generated prepared.now) }
+{
+    let token = prepared.token().unwrap_or("");
+    match prepared.recorded() {
+        Some(link) => account_reply(alloc, token, link.facts.exp),
+        None => account_reply(alloc, token, 0),
+    }
+}
+
+fn account_reply(alloc: Global, token: &str, end: u64) -> Result<Reply, AllocError>
+    requires { end ≤ 200_000_003_600 }
+    ensures { IfOk result (λ reply. reply ≡ record { status = 200; body = compact_text (replies.generated_data token.now (moment_text (pos end))) }) }
+{
+    let time = Text::new(time_text(alloc, end as i64)?);
+    json_reply(generated_text(alloc, token, time.as_str())?)
+}
+
+fn generated_text(alloc: Global, token: &str, time: &str) -> Result<Text, AllocError>
+    ensures { IfOk result (λ text. text ≡ compact_text (replies.generated_data token.now time.now)) }
+{
+    let mut members = Map::new(alloc);
+    put_generated(alloc, &mut members, token, time)?;
+    Ok(Text::new(Value::Object(members).to_string(alloc)?))
+}
+
+#[tactic(auto, unfolding(crate::specs::Replies::generated_data))]
+fn put_generated(
+    alloc: Global,
+    members: &mut Map<String, Value>,
+    token: &str,
+    time: &str,
+) -> Result<(), AllocError>
+    requires { members_view members.old.entries ≡ no_members }
+    ensures { OnOk result (object (members_view members.new.entries) ≡ replies.generated_data token.now time.now) }
+{
+    put_text(alloc, members, "accessToken", token)?;
+    put_text(alloc, members, "expireTime", time)
 }
 
 /// The reply to a check.

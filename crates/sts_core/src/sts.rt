@@ -3,14 +3,14 @@ ghost use Rattle.service_config.specs.declared.config.Config.{Config as Configur
 ghost use Rattle.service_config.specs.Formed.{IsFormedConfig};
 ghost use Rattle.links.specs.declared.entry.Entry.{Entry};
 ghost use Rattle.links.specs.State.{content_of};
-ghost use Rattle.sts_core.specs.Machine.{exchange as exchange_of, administration, checking, introspection_reply, step, with_entry};
+ghost use Rattle.sts_core.specs.Machine.{exchange as exchange_of, generate as generate_of, administration, checking, introspection_reply, step, with_entry};
 ghost use Rattle.sts_core.specs.State.{IsSetUp, Stands};
 
 use crate::administration::administer;
 use crate::checking::check;
 use crate::exchange::exchange;
+use crate::generate::generate;
 use crate::introspection::introspect;
-use crate::reply::not_built;
 use base_types::Text;
 use links::{State, start};
 use service_config::Config;
@@ -82,7 +82,7 @@ impl<D: Disk> Sts<D> {
     }
 
     /// Answers a request of any route, at a moment in seconds since 1970-01-01T00:00:00Z. With 2^32 - 1 entries in
-    /// the journal an exchange or a command stops for want of memory.
+    /// the journal an exchange, a request for a service account's token or a command stops for want of memory.
     pub fn answer(&mut self, alloc: Global, request: &Request, now: u64) -> Result<Reply, Stop>
         requires moment { now ≤ 200_000_000_000 }
         ensures reply { (config : Configuration) (journal : List Entry) → Stands self.old config journal
@@ -98,7 +98,7 @@ impl<D: Disk> Sts<D> {
             Route::Introspect => self.introspect(alloc, request, now),
             Route::Check => self.check(alloc, request, now),
             Route::Admin => self.admin(alloc, request, now),
-            Route::Generate { .. } => Ok(not_built(alloc)?),
+            Route::Generate { account } => self.generate(alloc, account, request, now),
         }
     }
 
@@ -117,6 +117,30 @@ impl<D: Disk> Sts<D> {
             return Err(Stop::Memory);
         }
         exchange(alloc, &mut self.state, request, now)
+    }
+
+    /// Answers a request for a token of a service account, by one who may impersonate it.
+    pub fn generate(
+        &mut self,
+        alloc: Global,
+        account: &Text,
+        request: &Request,
+        now: u64,
+    ) -> Result<Reply, Stop>
+        requires moment { now ≤ 200_000_000_000 }
+        ensures reply { (config : Configuration) (journal : List Entry) → Stands self.old config journal
+            → IfOk result (λ reply. reply ≡ (generate_of (content_of config journal) account.now request.now now).reply) }
+        ensures stands { (config : Configuration) (journal : List Entry) → Stands self.old config journal
+            → OnOk result (Stands self.new config
+            (with_entry journal (generate_of (content_of config journal) account.now request.now now).entry)) }
+        ensures stays { (config : Configuration) (journal : List Entry) → Stands self.old config journal
+            → OnErr result (Stands self.new config journal) }
+        ensures disk { self.new.disk ≡ self.old.disk }
+    {
+        if self.state.is_full() {
+            return Err(Stop::Memory);
+        }
+        generate(alloc, &mut self.state, account, request, now)
     }
 
     /// Answers a command of an administrator, whatever the moment: what it puts stands in place of what stood under its name.

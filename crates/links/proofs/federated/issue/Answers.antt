@@ -1,10 +1,15 @@
+use Rattle.entry_rules.specs.declared.fault.RuleCode.TheVariants.{E25}
 use Rattle.links.specs.declared.entry.Entry.TheVariants as entry
-use Rattle.links.proofs.Preparing.{exchange_size_last, issued_is}
+use Rattle.links.specs.Licence.{first_unlicensed, exchange_rules}
+use Rattle.links.proofs.Preparing.{issued_is, size_last}
 use Rattle.links.proofs.federated.issue.Goals as goal
 
 pub returns-clause-licensed : goal.returns-clause-licensed
+unfolding first_unlicensed
 returns-clause-licensed c =
-    exchange_size_last c.args.state.now.content c.args.exchange.now c.in_ok-recorded.recorded c.with_token.result c.in_ok-recorded.ensures.link
+    let content = c.args.state.now.content in
+    let x = c.args.exchange.now in
+    size_last content (entry.Federated x) (exchange_rules content x) E25 c.in_ok-recorded.recorded c.with_token.result c.in_ok-recorded.ensures.link
     c.in_ok-recorded.ensures.passes c.with_token.ensures.size
 
 pub returns-clause-issued : goal.returns-clause-issued

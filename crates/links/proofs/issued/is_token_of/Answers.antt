@@ -16,7 +16,8 @@ pub returns-then-number-link_count : goal.returns-then-number-link_count
 returns-then-number-link_count c =
     let content = c.args.state.now.content in
     let past : length content.links ≤ c.args.number = omega arith in
-    sym (ap (λ (o : Option Chain). is_text_of content c.args.text.now o) (chain-missing content c.args.number (slice_get_past content.links c.args.number past)))
+    sym (ap (λ (o : Option Chain). is_text_of content c.args.text.now o)
+    (chain-missing content c.args.number (slice_get_past content.links c.args.number past)))
 
 pub returns : goal.returns
 returns c =

@@ -14,6 +14,7 @@ returns-in-Ok c = IfOk-weaker c.number_in.result _ _
 pub returns-in-Err : goal.returns-in-Err
 returns-in-Err c = IfOk-weaker c.none_after.result _ _
     (λ told other payload n bytes low same jti.
-    let good : MacGood c.args.key.now c.args.text.now = subst (λ text. MacGood c.args.key.now text) (sym same) (c.signed_text_verifies.ensures.good c.args.key.now payload bytes) in
+    let good : MacGood c.args.key.now c.args.text.now =
+    subst (λ text. MacGood c.args.key.now text) (sym same) (c.signed_text_verifies.ensures.good c.args.key.now payload bytes) in
     absurd (other (c.in-Err.ensures.good good)))
     c.none_after.ensures.memory

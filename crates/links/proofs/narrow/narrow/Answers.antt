@@ -1,10 +1,15 @@
+use Rattle.entry_rules.specs.declared.fault.RuleCode.TheVariants.{E25}
 use Rattle.links.specs.declared.entry.Entry.TheVariants as entry
-use Rattle.links.proofs.Preparing.{narrow_size_last, issued_is}
+use Rattle.links.specs.Licence.{first_unlicensed, narrow_rules}
+use Rattle.links.proofs.Preparing.{issued_is, size_last}
 use Rattle.links.proofs.narrow.narrow.Goals as goal
 
 pub returns-clause-licensed : goal.returns-clause-licensed
+unfolding first_unlicensed
 returns-clause-licensed c =
-    narrow_size_last c.args.state.now.content c.args.narrowing.now c.in_ok-recorded.recorded c.with_token.result c.in_ok-recorded.ensures.link
+    let content = c.args.state.now.content in
+    let x = c.args.narrowing.now in
+    size_last content (entry.Narrow x) (narrow_rules content x) E25 c.in_ok-recorded.recorded c.with_token.result c.in_ok-recorded.ensures.link
     c.in_ok-recorded.ensures.passes c.with_token.ensures.size
 
 pub returns-clause-issued : goal.returns-clause-issued

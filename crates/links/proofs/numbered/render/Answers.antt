@@ -8,7 +8,8 @@ use Rattle.links.specs.State.{Content, chain, token_text}
 use Rattle.links.proofs.Held.{text_told}
 use Rattle.links.proofs.numbered.render.Goals as goal
 
-by_payload : (c : Content) (o : Option Chain) (payload : List ℕ) → option_map (λ found. payload_text c.issuer (facts_of found)) o ≡ Some payload → option_map (token_text c) o ≡ Some (compact c.key payload)
+by_payload : (c : Content) (o : Option Chain) (payload : List ℕ) → option_map (λ found. payload_text c.issuer (facts_of found)) o ≡ Some payload
+    → option_map (token_text c) o ≡ Some (compact c.key payload)
 by_payload c None payload is = absurd (cc is)
 by_payload c (Some found) payload is =
     let same : payload_text c.issuer (facts_of found) ≡ payload = cc is in

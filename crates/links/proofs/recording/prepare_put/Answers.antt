@@ -1,8 +1,9 @@
 use Rattle.std.proofs.Common.{subst, sym}
-use Rattle.links.specs.declared.fault.ApplyFault.{ApplyFault}
+use Rattle.entry_rules.specs.declared.fault.ApplyFault.{ApplyFault}
 use Rattle.links.specs.declared.entry.Entry.TheVariants as entry
 use Rattle.links.specs.declared.prepared.Plan.TheVariants as plan
-use Rattle.links.specs.Licence.{Refuses, first_unlicensed}
+use Rattle.entry_rules.specs.Passing.{Refuses}
+use Rattle.links.specs.Licence.{first_unlicensed}
 use Rattle.links.specs.Prepared.{planned}
 use Rattle.links.proofs.Preparing.{passes_but_memory, put_prepares, put_refused, room_prepared}
 use Rattle.links.proofs.recording.prepare_put.Goals as goal
@@ -22,4 +23,5 @@ returns-in-Ok-clause-prepared c =
 pub returns-in-Err-clause-licensed : goal.returns-in-Err-clause-licensed
 returns-in-Err-clause-licensed c =
     let content = c.args.state.now.content in
-    subst (λ (told : ApplyFault). Refuses told (first_unlicensed content (entry.Put c.args.command))) (sym c.refusal.ensures) (put_refused content c.args.command c.in-Err.fault c.in-Err.ensures.refused)
+    subst (λ (told : ApplyFault). Refuses told (first_unlicensed content (entry.Put c.args.command))) (sym c.refusal.ensures)
+    (put_refused content c.args.command c.in-Err.fault c.in-Err.ensures.refused)

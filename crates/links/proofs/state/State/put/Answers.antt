@@ -17,5 +17,6 @@ invariant_of-self c =
     let reached = reached-after before e c.self.invariant.2 c.requires.form (subst (λ (k : Content). Licensed k e) (sym same) c.requires.licensed) in (
       omega (arith, c.self.invariant.0),
       c.self.invariant.1,
-      subst (λ (v : View). Reached (record { issuer = i.issuer; key = i.key; view = v; count = i.count + 1; links = map link_of_recorded i.links.items })) (sym c.place.ensures) reached,
+      subst (λ (v : View). Reached (record { issuer = i.issuer; key = i.key; view = v; count = i.count + 1; links = map link_of_recorded i.links.items }))
+          (sym c.place.ensures) reached,
     )

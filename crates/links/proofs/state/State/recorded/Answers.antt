@@ -12,7 +12,14 @@ returns c =
     let rows = c.self.inside.links.items in
     let row = c.index-links-number.result in
     let within : c.args.number < length c.as_slice-links.result.now =
-    omega (arith, c.requires, map-length link_of_recorded rows, ap (λ (k : Kept). length k.content.links) c.self.view_is, ap length c.as_slice-links.ensures.value) in
+    omega (
+      arith,
+      c.requires,
+      map-length link_of_recorded rows,
+      ap (λ (k : Kept). length k.content.links) c.self.view_is,
+      ap length c.as_slice-links.ensures.value,
+    ) in
     let there = slice_get_read c.as_slice-links.result.now _ c.args.number row refl within c.index-links-number.is in
-    let at : slice_get rows c.args.number ≡ Some row = subst (λ (l : List RecordedLink). slice_get l c.args.number ≡ Some row) c.as_slice-links.ensures.value there in
+    let at : slice_get rows c.args.number ≡ Some row =
+    subst (λ (l : List RecordedLink). slice_get l c.args.number ≡ Some row) c.as_slice-links.ensures.value there in
     subst (λ (k : Kept). option_map recorded (chain k.content c.args.number) ≡ Some row) c.self.view_is (kept_row rows c.args.number row c.self.invariant.1 at)

@@ -1,0 +1,2 @@
+pub mod FormRules
+pub mod Forms

@@ -1,5 +1,0 @@
-use Rattle.std.proofs.Common.{◌≡◌, take}
-use Rattle.links.proofs.copying.copy_bounds.Given as goal
-
-abbrev pub invariant-loop-boundary : goal.invariant-loop-boundary
-invariant-loop-boundary l = l.copy ≡ take l.boundary-index l.bounds

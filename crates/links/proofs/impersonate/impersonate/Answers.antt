@@ -1,0 +1,18 @@
+use Rattle.entry_rules.specs.declared.fault.RuleCode.TheVariants.{I11}
+use Rattle.links.specs.declared.entry.Entry.TheVariants as entry
+use Rattle.links.specs.Licence.{first_unlicensed, impersonation_rules}
+use Rattle.links.proofs.Preparing.{issued_is, size_last}
+use Rattle.links.proofs.impersonate.impersonate.Goals as goal
+
+pub returns-clause-licensed : goal.returns-clause-licensed
+unfolding first_unlicensed
+returns-clause-licensed c =
+    let content = c.args.state.now.content in
+    let x = c.args.impersonation.now in
+    size_last content (entry.Impersonate x) (impersonation_rules content x) I11 c.in_ok-recorded.recorded c.with_token.result c.in_ok-recorded.ensures.link
+    c.in_ok-recorded.ensures.passes c.with_token.ensures.size
+
+pub returns-clause-issued : goal.returns-clause-issued
+returns-clause-issued c =
+    issued_is c.args.state.now.content (entry.Impersonate c.args.impersonation.now) c.in_ok-recorded.recorded c.with_token.result c.in_ok-recorded.ensures.link
+    c.with_token.ensures.issued

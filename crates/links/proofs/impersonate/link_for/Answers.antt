@@ -1,0 +1,19 @@
+use Rattle.links.specs.declared.entry.Entry.TheVariants as entry
+use Rattle.links.specs.Recorded.{impersonated}
+use Rattle.links.proofs.Journals.{reached_kept}
+use Rattle.links.proofs.Preparing.{held_bounds, held_impersonation, held_row}
+use Rattle.links.proofs.impersonate.link_for.Goals as goal
+
+pub link_behind-requires-clause-bounds : goal.link_behind-requires-clause-bounds
+link_behind-requires-clause-bounds c =
+    let content = c.args.state.now.content in
+    held_bounds content c.args.impersonation.now.parent c.in_ok-parent.parent.now (reached_kept content c.has_a_lawful_journal.ensures.reached)
+    c.in_ok-parent.ensures.link
+
+pub returns-clause-link : goal.returns-clause-link
+returns-clause-link c =
+    let content = c.args.state.now.content in
+    let x = c.args.impersonation.now in
+    let row = c.in_ok-parent.parent.now in
+    held_row c.link_count.result (λ n. impersonated n x row) content (entry.Impersonate x) c.link_behind.result c.link_count.ensures.count
+    (held_impersonation content x row (reached_kept content c.has_a_lawful_journal.ensures.reached) c.in_ok-parent.ensures.link) c.link_behind.ensures.link
