@@ -6,17 +6,17 @@ import re
 from urllib.parse import unquote_to_bytes
 
 from boundaries import SEEN, allows, are_exact, read_boundary, read_rules, sees, written
-from chains import DEEPEST, Federated, Narrow, carries
-from expressions import EvalError, checked, holds, meaning, result, value_of
+from chains import DEEPEST, LONGEST_LIFE, Delegate, Federated, Impersonate, Narrow, carries, is_enabled
+from expressions import EvalError, checked, holds, meaning, result, text_of, value_of
 from forms import Fault, covers, has_form, read_json, read_member, read_object
-from signing import compact, decoded, encoded, mac, provider_name, signed
+from signing import ACCESS, OAUTH, compact, decoded, encoded, mac, provider_name, signed
 
 EVERY = 'https://www.googleapis.com/auth/cloud-platform'
-OAUTH = 'urn:ietf:params:oauth:'
-EXCHANGE, ACCESS = OAUTH + 'grant-type:token-exchange', OAUTH + 'token-type:access_token'
+EXCHANGE = OAUTH + 'grant-type:token-exchange'
 OUTSIDE = (OAUTH + 'token-type:jwt', OAUTH + 'token-type:id_token')
 SINGLE = ('grant_type', 'subject_token', 'subject_token_type', 'actor_token', 'actor_token_type', 'requested_token_type', 'scope', 'options')
 LATEST = 2 ** 53
+GENERATE, DELEGATE, GET_ACCESS_TOKEN = '/v1/projects/-/serviceAccounts/', 'projects/-/serviceAccounts/', 'iam.serviceAccounts.getAccessToken'
 SUBJECT_KEY, GROUPS_KEY = 'google.subject', 'google.groups'
 CLAIMS = {'assertion': ('map', 'dyn')}
 MAPPED = {**CLAIMS, 'google': ('map', 'dyn'), 'attribute': ('map', 'string')}
@@ -130,11 +130,11 @@ class Service:
 
     def reply(self, path, bearer, at, body):
         front = path.partition('?')[0]
-        generates = re.fullmatch(r'/v1/projects/-/serviceAccounts/(.*):generateAccessToken', front)
+        generates = re.fullmatch(re.escape(GENERATE) + '(.*):generateAccessToken', front)
         routes = {'/v1/token': self.exchange, '/v1/introspect': self.introspect, '/v1/check': self.check, '/v1/admin': self.admin}
         try:
             if generates:
-                raise Fault('Z1')
+                return 200, self.generate(generates[1], bearer, at, body)
             if front not in routes:
                 raise Fault('H4')
             return 200, routes[front](bearer, at, body)
@@ -143,17 +143,20 @@ class Service:
 
     def exchange(self, bearer, at, body):
         asked, boundary, audiences = self.asked(body)
-        if asked['actor_token']:
-            raise Fault('Z1')
-        narrows = asked['subject_token_type'] == ACCESS
-        link = self.narrow(asked, boundary, audiences, at) if narrows else self.federated(asked, audiences, at)
+        is_derived = asked['subject_token_type'] == ACCESS
+        link = self.derived(asked, boundary, audiences, at) if is_derived else self.federated(asked, audiences, at)
+        return {'access_token': self.recorded(link, 'E25'), 'expires_in': link.exp - at, 'issued_token_type': ACCESS, 'scope': link.scope,
+                'token_type': 'Bearer'}
+
+    def recorded(self, link, code):
+        """The token of a link that is recorded, or the rule on its size that it fails."""
         facts = self.facts(link, len(self.issued))
         token = signed(self.own, facts)
         if len(token) > 8192:
-            raise Fault('E25')
+            raise Fault(code)
         self.issued[token] = link, facts
         self.entries += 1
-        return {'access_token': token, 'expires_in': link.exp - at, 'issued_token_type': ACCESS, 'scope': link.scope, 'token_type': 'Bearer'}
+        return token
 
     def federated(self, asked, audiences, at):
         """The link to a subject token from outside, or the first rule that it fails."""
@@ -167,16 +170,69 @@ class Service:
         who = sorted_members(dict(identity(provider, value_of(tree)), pool=provider['pool']))
         return Federated(at, asked['scope'] or EVERY, claims['exp'], who, claims['may_act'])
 
-    def narrow(self, asked, boundary, audiences, at):
-        """The link to a link whose token was issued, or the first rule that it fails."""
+    def derived(self, asked, boundary, audiences, at):
+        """The link to a link whose token was issued, and to an actor's where there is one, or the first rule that it fails."""
         if audiences:
             raise Fault('E14')
-        parent, _ = self.issued.get(asked['subject_token'], (None, None))
-        if parent is None or not parent.is_live(self.pools, at):
-            raise Fault('E21')
-        if parent.depth == DEEPEST:
-            raise Fault('E24')
-        return Narrow(at, asked['scope'] or parent.scope, parent, boundary)
+        subject = self.live_link(asked['subject_token'], at, 'E21')
+        scope = asked['scope'] or subject.scope
+        if not asked['actor_token']:
+            return fits(Narrow(at, scope, subject, boundary), 'E24')
+        actor = self.live_link(asked['actor_token'], at, 'E22')
+        name = name_of(actor.who)
+        if subject.may_act[:1] != [name]:
+            raise Fault('E23')
+        return fits(Delegate(at, scope, subject, actor, name), 'E24')
+
+    def live_link(self, token, at, code):
+        """The link whose token was issued, while it is live; else the rule that asks for one."""
+        link, facts = self.issued.get(token, (None, None))
+        if link is None or not self.is_live(link, facts, at):
+            raise Fault(code)
+        return link
+
+    def is_live(self, link, facts, at):
+        """Whether a link is live, as it is told by the links that it came from, as well as by what its token says."""
+        by_text = at < facts['exp'] and all(is_enabled(self.pools, pool) for pool in facts['wif']['pools']) \
+            and all(is_enabled(self.accounts, account) for account in facts['wif']['accounts'])
+        if link.is_live(self, at) != by_text:
+            raise RuntimeError(f'by its text {by_text}, by its links {not by_text}: {facts}')
+        return by_text
+
+    def generate(self, account, bearer, at, body):
+        if bearer == '-':
+            raise Fault('I1')
+        if not has_form(account, 'account'):
+            raise Fault('I2')
+        delegates, scope, lifetime = self.wanted(read_object(body, 'I3'))
+        parent, accounts = self.live_link(bearer, at, 'I7'), delegates + [account]
+        self.reaches(parent, accounts, at)
+        link = fits(Impersonate(at, scope, parent, accounts, lifetime), 'I10')
+        return {'accessToken': self.recorded(link, 'I11'), 'expireTime': text_of(link.exp)}
+
+    def wanted(self, asked):
+        """The delegates' accounts, the words and the lifetime of a request for an account's token, or the first fault of its members."""
+        delegates, scope, lifetime = (asked.get(name) for name in ('delegates', 'scope', 'lifetime'))
+        delegates = [] if delegates is None else delegates
+        if not isinstance(delegates, list) or len(delegates) > 4 or not all(map(is_delegate, delegates)):
+            raise Fault('I4')
+        if not isinstance(scope, list) or not 1 <= len(scope) <= 16 or not all(isinstance(word, str) and word in self.scopes for word in scope):
+            raise Fault('I5')
+        lifetime = f'{LONGEST_LIFE}s' if lifetime is None else lifetime
+        if not isinstance(lifetime, str) or not re.fullmatch('[1-9][0-9]{0,3}s', lifetime) or int(lifetime[:-1]) > LONGEST_LIFE:
+            raise Fault('I6')
+        return [delegate.removeprefix(DELEGATE) for delegate in delegates], ' '.join(scope), int(lifetime[:-1])
+
+    def reaches(self, parent, accounts, at):
+        """Refuses accounts that aren't enabled, and a hop to one of them that isn't allowed."""
+        for number, account in enumerate(accounts):
+            if not is_enabled(self.accounts, account):
+                raise Fault(f'I8 {number}')
+        for number, account in enumerate(accounts):
+            resource = '//iam.googleapis.com/' + DELEGATE + account
+            who = parent.who if number == 0 else {'account': accounts[number - 1]}
+            if not self.allows(parent, GET_ACCESS_TOKEN, resource, at) or not self.grants(who, GET_ACCESS_TOKEN, resource, at):
+                raise Fault(f'I9 {number}')
 
     def asked(self, body):
         """The parameters of an exchange that are there once at most, its boundary or none, and its audiences; or the first fault of its form."""
@@ -218,10 +274,9 @@ class Service:
 
     def facts(self, link, number):
         """What the token of a link with this number tells."""
-        facts = {'exp': link.exp, 'iat': link.at, 'iss': self.config['issuer'], 'jti': str(number)}
-        if link.may_act:
-            facts['may_act'] = nested('may_act', link.may_act)
-        return dict(facts, scope=link.scope, sub=name_of(link.who), wif=carries(link))
+        actors = {name: nested(name, subjects) for name, subjects in (('act', link.act), ('may_act', link.may_act)) if subjects}
+        return sorted_members(dict(actors, exp=link.exp, iat=link.at, iss=self.config['issuer'], jti=str(number), scope=link.scope,
+                                   sub=name_of(link.who), wif=carries(link)))
 
     def introspect(self, bearer, at, body):
         if bearer != self.config['gate']:
@@ -233,9 +288,10 @@ class Service:
         if len(tokens) != 1:
             raise Fault('N2')
         link, facts = self.issued.get(tokens[0], (None, None))
-        if link is None or not link.is_live(self.pools, at):
+        if link is None or not self.is_live(link, facts, at):
             return {'active': False}
-        return dict({'active': True}, **{name: facts[name] for name in ('exp', 'iat', 'iss', 'jti', 'scope', 'sub')}, token_type='Bearer')
+        told_members = {name: facts[name] for name in ('act', 'exp', 'iat', 'iss', 'jti', 'scope', 'sub') if name in facts}
+        return sorted_members(dict(told_members, active=True, token_type='Bearer'))
 
     def check(self, bearer, at, body):
         if bearer != self.config['gate']:
@@ -268,9 +324,12 @@ class Service:
 
     def admits(self, link, permission, resource, at):
         """Whether each link down to the root is live and allows it, and it is granted to whom the link is for."""
-        return link.is_live(self.pools, at) and self.grants(link.who, permission, resource, at) and all(
-            self.words_allow(words, permission) and (rules is None or allows(self.roles, read_rules(rules), permission, resource, at))
-            for words, rules in link.narrowings())
+        return link.is_live(self, at) and self.allows(link, permission, resource, at) and self.grants(link.who, permission, resource, at)
+
+    def allows(self, link, permission, resource, at):
+        """Whether the words and the boundary of each link down to the root allow it; those of actors don't count."""
+        return all(self.words_allow(words, permission) and (rules is None or allows(self.roles, read_rules(rules), permission, resource, at))
+                   for words, rules in link.narrowings())
 
     def words_allow(self, words, permission):
         known = [self.scopes.get(word, []) for word in words.split(' ')]
@@ -280,8 +339,8 @@ class Service:
         """The first rule that denies what is carried, with its place, or none."""
         if exp <= at:
             return 'G4'
-        for rule, held in [('G5', [self.pools.get(pool, False) for pool in wif['pools']]),
-                           ('G6', [self.accounts.get(account, False) for account in wif['accounts']]),
+        for rule, held in [('G5', [is_enabled(self.pools, pool) for pool in wif['pools']]),
+                           ('G6', [is_enabled(self.accounts, account) for account in wif['accounts']]),
                            ('G7', [self.words_allow(words, permission) for words in wif['scopes']]),
                            ('G8', [allows(self.roles, read_rules(rules), permission, resource, at) for rules in wif['bounds']])]:
             if False in held:
@@ -407,6 +466,19 @@ def meets_condition(condition, env):
         raise Fault('E20 ConditionError')
     if not value:
         raise Fault('E20 ConditionFalse')
+
+
+# Links.
+
+def fits(link, code):
+    """A link that isn't too deep, or the rule on that."""
+    if link.depth > DEEPEST:
+        raise Fault(code)
+    return link
+
+
+def is_delegate(text):
+    return isinstance(text, str) and text.startswith(DELEGATE) and has_form(text.removeprefix(DELEGATE), 'account')
 
 
 # Commands.
@@ -547,9 +619,10 @@ def sorted_members(value):
 
 def refusal(text):
     code = text.partition(' ')[0]
-    others = {'U1': (401, 'invalid_token'), 'H4': (404, 'not_found'), 'Z1': (501, 'not_built'), 'E4': (400, 'unsupported_grant_type'),
-              'E11': (400, 'invalid_scope'), **dict.fromkeys(('E10', 'E14', 'E15'), (400, 'invalid_target'))}
-    status, word = others.get(code, (400, 'invalid_argument' if code[0] in 'CA' else 'invalid_request'))
+    others = {**dict.fromkeys(('U1', 'I1', 'I7'), (401, 'invalid_token')), **dict.fromkeys(('I8', 'I9'), (403, 'permission_denied')),
+              'H4': (404, 'not_found'), 'E4': (400, 'unsupported_grant_type'), 'E11': (400, 'invalid_scope'),
+              **dict.fromkeys(('E10', 'E14', 'E15'), (400, 'invalid_target'))}
+    status, word = others.get(code, (400, 'invalid_argument' if code[0] in 'ACI' else 'invalid_request'))
     return status, {'error': word, 'error_description': text}
 
 
@@ -559,7 +632,7 @@ def told(value):
         return value['error_description']
     if 'reason' in value:
         return value['reason'] + (f" {value['place']}" if 'place' in value else '')
-    for name, word in (('access_token', 'issued'), ('entry', f"entry {value.get('entry')}"), ('allowed', 'allowed')):
+    for name, word in (('access_token', 'issued'), ('accessToken', 'issued'), ('entry', f"entry {value.get('entry')}"), ('allowed', 'allowed')):
         if name in value:
             return word
     return 'active' if value['active'] else 'inactive'

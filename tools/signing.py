@@ -5,6 +5,10 @@ usage: python3 tools/signing.py CONFIG exchange SUBJECT [AT]              a subj
                                                                           command that puts its provider, CLAIMS a JSON object
        python3 tools/signing.py CONFIG narrow TOKEN BOUNDARY [AT]         an access token, exchanged for one with this access boundary, a
                                                                           JSON object
+       python3 tools/signing.py CONFIG impersonate TOKEN ACCOUNTS [AT]    a request for a service account's token with an access token;
+                                                                          ACCOUNTS is the account, or some with commas between: it
+                                                                          is the last, and those before it are the delegates
+       python3 tools/signing.py CONFIG act TOKEN ACTOR [AT]               an access token, exchanged by an actor with theirs
        python3 tools/signing.py CONFIG introspect TOKEN [AT]
        python3 tools/signing.py CONFIG check TOKEN PERMISSION RESOURCE [AT]
        python3 tools/signing.py CONFIG admin COMMAND [AT]                 COMMAND is a JSON object
@@ -19,6 +23,8 @@ from urllib.parse import quote
 
 HEADER = '{"alg":"HS256","typ":"JWT"}'
 AT = 1700000000
+OAUTH = 'urn:ietf:params:oauth:'
+ACCESS = OAUTH + 'token-type:access_token'
 
 
 def decoded(text):
@@ -59,9 +65,8 @@ def provider_name(start):
 
 
 def exchange_pairs(start, token):
-    kinds = 'urn:ietf:params:oauth:'
-    return [('grant_type', kinds + 'grant-type:token-exchange'), ('audience', provider_name(start)),
-            ('subject_token', token), ('subject_token_type', kinds + 'token-type:jwt')]
+    return [('grant_type', OAUTH + 'grant-type:token-exchange'), ('audience', provider_name(start)),
+            ('subject_token', token), ('subject_token_type', OAUTH + 'token-type:jwt')]
 
 
 def presented(provider, told, at):
@@ -70,19 +75,38 @@ def presented(provider, told, at):
     return frame('/v1/token', '-', at, form(exchange_pairs(provider, signed(decoded(provider['key']), claims))))
 
 
+def exchanged(token, more, at):
+    """The exchange of an access token, with more parameters."""
+    return frame('/v1/token', '-', at, form([
+        ('grant_type', OAUTH + 'grant-type:token-exchange'), ('subject_token', token), ('subject_token_type', ACCESS), *more]))
+
+
 def narrowed(token, boundary, at):
     """The exchange of an access token for one that an access boundary, a JSON text, limits."""
-    kinds = 'urn:ietf:params:oauth:'
-    return frame('/v1/token', '-', at, form([
-        ('grant_type', kinds + 'grant-type:token-exchange'), ('subject_token', token), ('subject_token_type', kinds + 'token-type:access_token'),
-        ('options', '{"accessBoundary":' + boundary + '}')]))
+    return exchanged(token, [('options', '{"accessBoundary":' + boundary + '}')], at)
+
+
+def acted(token, actor, at):
+    """The exchange of an access token by an actor with another."""
+    return exchanged(token, [('actor_token', actor), ('actor_token_type', ACCESS)], at)
+
+
+def impersonated(token, accounts, at):
+    """A request for the token of the last of these accounts, by way of those before it."""
+    *delegates, account = accounts.split(',')
+    asked = {'delegates': ['projects/-/serviceAccounts/' + one for one in delegates], 'scope': ['https://www.googleapis.com/auth/cloud-platform']}
+    return frame(f'/v1/projects/-/serviceAccounts/{account}:generateAccessToken', token, at, compact(asked))
+
+
+# How many words each verb has behind it.
+COUNTS = {'exchange': 1, 'present': 2, 'narrow': 2, 'impersonate': 2, 'act': 2, 'introspect': 1, 'check': 3, 'admin': 1}
 
 
 def main(words):
     with open(words[0]) as source:
         config = json.load(source)
     start, verb, rest = config.get('start'), words[1], words[2:]
-    count = {'exchange': 1, 'present': 2, 'narrow': 2, 'introspect': 1, 'check': 3, 'admin': 1}[verb]
+    count = COUNTS[verb]
     at = int(rest[count]) if len(rest) > count else AT
     gate = config['gate']
     if verb == 'exchange':
@@ -91,6 +115,10 @@ def main(words):
         made = presented(json.loads(rest[0]), json.loads(rest[1]), at)
     elif verb == 'narrow':
         made = narrowed(rest[0], rest[1], at)
+    elif verb == 'impersonate':
+        made = impersonated(rest[0], rest[1], at)
+    elif verb == 'act':
+        made = acted(rest[0], rest[1], at)
     elif verb == 'introspect':
         made = frame('/v1/introspect', gate, at, 'token=' + rest[0])
     elif verb == 'check':
@@ -101,6 +129,6 @@ def main(words):
 
 
 if __name__ == '__main__':
-    if len(sys.argv) < 4 or sys.argv[2] not in ('exchange', 'present', 'narrow', 'introspect', 'check', 'admin'):
+    if len(sys.argv) < 4 or sys.argv[2] not in COUNTS:
         sys.exit(__doc__)
     main(sys.argv[1:])

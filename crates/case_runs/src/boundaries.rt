@@ -1,7 +1,6 @@
-use crate::escapes::{escaped, yes_or_no};
-use crate::inputs::Inputs;
 use base_types::{Items, both, kept};
 use boundary::{Boundary, BoundaryError, Rule, allows, read_boundary};
+use case_inputs::{Inputs, escaped, yes_or_no};
 use iam_names::{NameError, Permission, Resource, Role, Roles};
 use json_text::{DocumentFault, read_document};
 use std::alloc::{AllocError, Global};

@@ -1,5 +1,4 @@
-use crate::escapes::escaped;
-use crate::inputs::Inputs;
+use case_inputs::{Inputs, escaped};
 use cel_builtins::OVERLOADS;
 use cel_lines::run_lines;
 use cel_syntax::{ParseError, parse, print};

@@ -1,6 +1,5 @@
-use crate::escapes::{escaped, yes_or_no};
-use crate::inputs::Inputs;
 use base_types::{has_size, is_visible_text};
+use case_inputs::{Inputs, escaped, yes_or_no};
 use cel_values::from_json;
 use json_text::{DocumentFault, read_document, text_at, texts_at, texts_value, whole_number_at};
 use serde_json::Value;

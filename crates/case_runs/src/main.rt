@@ -3,9 +3,7 @@
 #![tactic(auto)]
 
 mod boundaries;
-mod escapes;
 mod expressions;
-mod inputs;
 mod json;
 mod names;
 mod policies;
@@ -13,7 +11,7 @@ mod providers;
 mod service;
 mod signatures;
 
-use inputs::Inputs;
+use case_inputs::Inputs;
 use std::alloc::{AllocError, Global};
 use std::io;
 
@@ -46,8 +44,6 @@ fn answer_of_names(alloc: Global, call: &str, inputs: &Inputs) -> Result<String,
         "command" => service::command(alloc, inputs),
         "config" => service::config(alloc, inputs),
         "route" => service::route(alloc, inputs),
-        "frame" => service::frame(alloc, inputs),
-        "script" => service::script(alloc, inputs),
         "tokens" => expressions::tokens(alloc, inputs),
         "tree" => expressions::tree(alloc, inputs),
         "lines" => expressions::lines(alloc, inputs),

@@ -1,6 +1,5 @@
-use crate::escapes::yes_or_no;
-use crate::inputs::Inputs;
 use base_types::{Items, Text, TextMap};
+use case_inputs::{Inputs, yes_or_no};
 use iam_names::{
     Account, AccountForm, AttributeForm, Audience, Form, Identity, Member, Name, NameError,
     PermissionForm, PoolIdForm, PoolName, ProjectForm, Resource, ResourceForm, RoleForm,

@@ -1,10 +1,9 @@
-use crate::escapes::yes_or_no;
-use crate::inputs::Inputs;
 use allow_policy::{
     Binding, Policies, PutFault, ScopeSet, granted, knows_scope, put_policy, put_role, put_scope,
     scope_allows,
 };
 use base_types::{Items, both, kept};
+use case_inputs::{Inputs, yes_or_no};
 use iam_names::{Account, Member, NameError, Permission, Resource, Role, ScopeWord, Who};
 use std::alloc::{AllocError, Global};
 

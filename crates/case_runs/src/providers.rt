@@ -1,6 +1,5 @@
-use crate::escapes::escaped;
-use crate::inputs::Inputs;
 use base_types::{Text, TextMap};
+use case_inputs::{Inputs, escaped};
 use iam_names::Identity;
 use json_text::{DocumentFault, read_document, texts_value};
 use pools::{MapFault, Provider, admit};

@@ -1,19 +1,11 @@
-ghost use Rattle.service_config.specs.Formed.{IsFormedConfig};
-
-use crate::escapes::escaped;
-use crate::inputs::Inputs;
 use allow_policy::ScopeSet;
+use case_inputs::Inputs;
 use json_text::read_document;
-use service_config::{Config, ConfigError, read_service_config};
+use service_config::{ConfigError, read_service_config};
 use service_view::Command;
 use std::alloc::{AllocError, Global};
 use sts_admin::{CommandFault, read_command};
-use sts_core::Sts;
-use sts_serve::{Found, Served, read_frame, run_script};
-use wif_base::{MemDisk, MemSink, MemSource, Route, route_of};
-
-const CONFIG: &[u8] =
-    br#"{"issuer":"https://sts.example","key":"U1NTU1NTU1NTU1NTU1NTU1NTU1NTU1NTU1NTU1NTU1M","admin":"admin-secret-000001","gate":"gate-secret-0000001"}"#;
+use wif_base::{Route, route_of};
 
 fn shown(command: &Command) -> &'static str {
     match command {
@@ -71,40 +63,4 @@ pub(crate) fn route(alloc: Global, inputs: &Inputs) -> Result<String, AllocError
         }
         None => "none".to_owned(alloc),
     }
-}
-
-/// `frame BYTES`: the size of the frame at their front, or whether one can become of them.
-pub(crate) fn frame(alloc: Global, inputs: &Inputs) -> Result<String, AllocError> {
-    match read_frame(alloc, inputs.bytes(0))? {
-        Found::Whole(_, size) => format!(in alloc; "whole {size}"),
-        Found::Part => "part".to_owned(alloc),
-        Found::Never => "never".to_owned(alloc),
-    }
-}
-
-/// `script FRAMES`: how the run ends, and its output.
-pub(crate) fn script(alloc: Global, inputs: &Inputs) -> Result<String, AllocError> {
-    let mut input = MemSource::new(inputs.bytes(0).to_vec(alloc)?, Vec::new(alloc));
-    let mut output = MemSink::new(Vec::with_capacity(alloc, 65536)?, Vec::new(alloc));
-    let Ok(config) = read_service_config(alloc, CONFIG) else {
-        return "no configuration".to_owned(alloc);
-    };
-    let end = end_of(alloc, &config, &mut input, &mut output)?;
-    let written = escaped(alloc, output.bytes.as_slice())?;
-    format!(in alloc; "{end:?} {written}")
-}
-
-fn end_of(
-    alloc: Global,
-    config: &Config,
-    input: &mut MemSource,
-    output: &mut MemSink,
-) -> Result<Served, AllocError>
-    requires { IsFormedConfig config.now }
-{
-    let disk = MemDisk::new(alloc, b"", 0, 0, Vec::new(alloc))?;
-    let mut sts = Sts::open(alloc, disk, config)?;
-    let end = run_script(alloc, &mut sts, input, output);
-    drop(sts.close());
-    Ok(end)
 }

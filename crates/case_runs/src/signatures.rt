@@ -1,6 +1,5 @@
-use crate::escapes::{escaped, hexadecimal};
-use crate::inputs::Inputs;
 use base_types::Text;
+use case_inputs::{Inputs, escaped, hexadecimal};
 use hmac_jws::{JwsFault, hmac, sign, verify};
 use json_text::texts_value;
 use std::alloc::{AllocError, Global};

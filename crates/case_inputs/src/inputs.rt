@@ -3,13 +3,13 @@ use std::alloc::{AllocError, Global};
 
 /// What a line hands to its call: byte strings behind one another.
 #[derive(Drop)]
-pub(crate) struct Inputs {
+pub struct Inputs {
     parts: Vec<Vec<u8>>,
 }
 
 impl Inputs {
     /// The inputs between the tabs of a text.
-    pub(crate) fn read(alloc: Global, text: &str) -> Result<Self, AllocError> {
+    pub fn read(alloc: Global, text: &str) -> Result<Self, AllocError> {
         let mut parts = Vec::new(alloc);
         for part in text.split('\t') {
             parts.push(unescaped(alloc, part)?)?;
@@ -18,7 +18,7 @@ impl Inputs {
     }
 
     /// The bytes of an input, and none where it isn't there.
-    pub(crate) fn bytes(&self, index: usize) -> &[u8] {
+    pub fn bytes(&self, index: usize) -> &[u8] {
         match self.parts.get(index) {
             Some(part) => part.as_slice(),
             None => &[],
@@ -26,12 +26,12 @@ impl Inputs {
     }
 
     /// An input that is a text, and else the empty text.
-    pub(crate) fn text(&self, index: usize) -> &str {
+    pub fn text(&self, index: usize) -> &str {
         std::str::from_utf8(self.bytes(index)).unwrap_or("")
     }
 
     /// An input that is a number, and else 0.
-    pub(crate) fn number(&self, index: usize) -> u64 {
+    pub fn number(&self, index: usize) -> u64 {
         self.text(index).parse::<u64>().unwrap_or(0)
     }
 }

@@ -56,7 +56,7 @@ fn put_repeated(bytes: &mut Vec<u8>, text: &str) -> Result<(), AllocError> {
 }
 
 /// A text with each byte that isn't printable ASCII escaped.
-pub(crate) fn escaped(alloc: Global, bytes: &[u8]) -> Result<String, AllocError> {
+pub fn escaped(alloc: Global, bytes: &[u8]) -> Result<String, AllocError> {
     let mut text = String::new(alloc);
     for byte in bytes {
         match *byte {
@@ -74,7 +74,7 @@ pub(crate) fn escaped(alloc: Global, bytes: &[u8]) -> Result<String, AllocError>
 }
 
 /// Two lower-case digits for each byte.
-pub(crate) fn hexadecimal(alloc: Global, bytes: &[u8]) -> Result<String, AllocError> {
+pub fn hexadecimal(alloc: Global, bytes: &[u8]) -> Result<String, AllocError> {
     let mut text = String::new(alloc);
     for byte in bytes {
         text.push_str(format!(in alloc; "{byte:02x}")?.as_str())?;
@@ -82,6 +82,7 @@ pub(crate) fn hexadecimal(alloc: Global, bytes: &[u8]) -> Result<String, AllocEr
     Ok(text)
 }
 
-pub(crate) fn yes_or_no(alloc: Global, holds: bool) -> Result<String, AllocError> {
+/// `yes` or `no`.
+pub fn yes_or_no(alloc: Global, holds: bool) -> Result<String, AllocError> {
     if holds { "yes" } else { "no" }.to_owned(alloc)
 }

@@ -1,0 +1,114 @@
+ghost use Rattle.service_config.specs.Formed.{IsFormedConfig};
+
+use case_inputs::{Inputs, escaped};
+use iam_names::{Permission, Resource};
+use links::{State, admits, chain_of};
+use service_config::{Config, read_service_config};
+use std::alloc::{AllocError, Global};
+use sts_core::Sts;
+use sts_serve::{Found, Served, read_frame, run_script};
+use wif_base::{MemDisk, MemSink, MemSource};
+
+const CONFIG: &[u8] =
+    br#"{"issuer":"https://sts.example","key":"U1NTU1NTU1NTU1NTU1NTU1NTU1NTU1NTU1NTU1NTU1M","admin":"admin-secret-000001","gate":"gate-secret-0000001"}"#;
+
+/// `frame BYTES`: the size of the frame at their front, or whether one can become of them.
+pub(crate) fn frame(alloc: Global, inputs: &Inputs) -> Result<String, AllocError> {
+    match read_frame(alloc, inputs.bytes(0))? {
+        Found::Whole(_, size) => format!(in alloc; "whole {size}"),
+        Found::Part => "part".to_owned(alloc),
+        Found::Never => "never".to_owned(alloc),
+    }
+}
+
+/// `script FRAMES`: how the run ends, and its output.
+pub(crate) fn script(alloc: Global, inputs: &Inputs) -> Result<String, AllocError> {
+    let mut output = MemSink::new(Vec::with_capacity(alloc, 65536)?, Vec::new(alloc));
+    let Some((sts, end)) = run(alloc, inputs.bytes(0), &mut output)? else {
+        return "no configuration".to_owned(alloc);
+    };
+    drop(sts.close());
+    let written = escaped(alloc, output.bytes.as_slice())?;
+    format!(in alloc; "{end:?} {written}")
+}
+
+/// `chains FRAMES`: the numbers of the links that each recorded link goes back to, behind the frames.
+pub(crate) fn chains(alloc: Global, inputs: &Inputs) -> Result<String, AllocError> {
+    let mut output = MemSink::new(Vec::with_capacity(alloc, 65536)?, Vec::new(alloc));
+    let Some((sts, _)) = run(alloc, inputs.bytes(0), &mut output)? else {
+        return "no configuration".to_owned(alloc);
+    };
+    let told = chains_in(alloc, &sts.state);
+    drop(sts.close());
+    told
+}
+
+fn chains_in(alloc: Global, state: &State) -> Result<String, AllocError> {
+    let mut told = String::new(alloc);
+    for number in 0..state.link_count() {
+        let chain = chain_of(alloc, state, number)?;
+        told.push_str(format!(in alloc; "{chain:?}")?.as_str())?;
+    }
+    Ok(told)
+}
+
+/// `admits PERMISSION RESOURCE MOMENT FRAMES`: whether each recorded link admits the permission on the resource then, behind the
+/// frames.
+pub(crate) fn admitted(alloc: Global, inputs: &Inputs) -> Result<String, AllocError> {
+    let mut output = MemSink::new(Vec::with_capacity(alloc, 65536)?, Vec::new(alloc));
+    let Some((sts, _)) = run(alloc, inputs.bytes(3), &mut output)? else {
+        return "no configuration".to_owned(alloc);
+    };
+    let told = admitted_in(alloc, &sts.state, inputs);
+    drop(sts.close());
+    told
+}
+
+fn admitted_in(alloc: Global, state: &State, inputs: &Inputs) -> Result<String, AllocError> {
+    let Ok(permission) = Permission::read(alloc, inputs.text(0)) else {
+        return "no permission".to_owned(alloc);
+    };
+    let Ok(resource) = Resource::read(alloc, inputs.text(1)) else {
+        return "no resource".to_owned(alloc);
+    };
+    let mut told = String::new(alloc);
+    for number in 0..state.link_count() {
+        let yes = admits(
+            alloc,
+            state,
+            number,
+            &permission,
+            &resource,
+            inputs.number(2),
+        )?;
+        told.push_str(if yes { "yes " } else { "no " })?;
+    }
+    Ok(told)
+}
+
+// Runs the frames over the configuration of the cases.
+fn run(
+    alloc: Global,
+    frames: &[u8],
+    output: &mut MemSink,
+) -> Result<Option<(Sts<MemDisk>, Served)>, AllocError> {
+    let mut input = MemSource::new(frames.to_vec(alloc)?, Vec::new(alloc));
+    match read_service_config(alloc, CONFIG) {
+        Ok(config) => Ok(Some(run_under(alloc, &config, &mut input, output)?)),
+        Err(_) => Ok(None),
+    }
+}
+
+fn run_under(
+    alloc: Global,
+    config: &Config,
+    input: &mut MemSource,
+    output: &mut MemSink,
+) -> Result<(Sts<MemDisk>, Served), AllocError>
+    requires { IsFormedConfig config.now }
+{
+    let disk = MemDisk::new(alloc, b"", 0, 0, Vec::new(alloc))?;
+    let mut sts = Sts::open(alloc, disk, config)?;
+    let end = run_script(alloc, &mut sts, input, output);
+    Ok((sts, end))
+}
