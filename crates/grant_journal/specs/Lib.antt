@@ -1,0 +1,6 @@
+pub mod Answers
+pub mod Emptying
+pub mod JournalBytes
+pub mod Places
+pub mod Reading
+pub mod Whole
