@@ -1,11 +1,11 @@
 -- What a crash leaves while the empty journal is written.
-use Rattle.std.proofs.Common.{◌≡◌, inl, inr, ℕ, zero, suc, ◌+◌, ◌<◌, ◌≤◌, List, [], ◌∷◌, ◌++◌, length, get_or, refl, sym, ap, ◌∙◌, subst, arith, length-append}
+use Rattle.std.proofs.Common.{◌≡◌, inl, inr, ℕ, ◌<◌, ◌≤◌, List, [], ◌∷◌, ◌++◌, length, get_or, refl, sym, ap, ◌∙◌, arith, length-append}
 use Rattle.std.specs.Prelude.{Option, None, Some}
 use Rattle.std.proofs.lemmas.Bool.{cases_lt}
-use Rattle.wif_base.specs.Disk.{Told, Held, MayLeave, EachImage, LeavesOnly, Leaves, LeavesNow, Torn, with_range, after_write, after_sync, next, told_written, told_synced, FailsWrite}
+use Rattle.wif_base.specs.Disk.{Told, Held, MayLeave, EachImage, LeavesOnly, Leaves, LeavesNow, Torn, with_range, after_write, told_written, told_synced, FailsWrite}
 use Rattle.wif_base.proofs.Images.{itself, written-torn, synced-fewer}
 use Rattle.wif_base.proofs.Moments.{starts, steps}
-use Rattle.grant_journal.specs.JournalBytes.{StandsFor, before_gate, opened}
+use Rattle.grant_journal.specs.JournalBytes.{before_gate, opened}
 use Rattle.grant_journal.specs.Emptying.{IsEmptyOrNone}
 
 no_texts : (texts : List (List ℕ)) → length (opened texts) ≡ 0 → texts ≡ []

@@ -1,5 +1,5 @@
 -- What stands in a file at a place, and how each list that the file may stand for goes on there.
-use Rattle.std.proofs.Common.{◌≡◌, ◌≢◌, ◌⊎◌, ◌<◌, ◌≤◌, inl, inr, ℕ, ◌+◌, ◌-◌, ◌*◌, ◌/◌, ◌%◌, List, [], ◌∷◌, ◌++◌, length, get_or, take, drop, refl, sym, ◌∙◌, ap, subst, arith, append_assoc, length-append, take-append-drop}
+use Rattle.std.proofs.Common.{◌≡◌, ◌≢◌, ◌<◌, ◌≤◌, inl, inr, ℕ, ◌+◌, ◌-◌, ◌/◌, ◌%◌, List, [], ◌∷◌, ◌++◌, length, get_or, take, drop, refl, sym, ◌∙◌, ap, arith, append_assoc, length-append, take-append-drop}
 use Rattle.std.proofs.lemmas.List.{take_at, drop_at, drop_more, drop-drop, get_or-drop, length-drop, take-append-le, take-take}
 use Rattle.grant_journal.specs.JournalBytes.{four_bytes, opened, marker, before_gate, journal_bytes, StandsFor}
 use Rattle.grant_journal.specs.Places.{HasMarker, IsBehind, IsClosedAt, IsRecordAt, number_at, PassesEnd, IsTooLongAt, BreaksAt, PassesLimit}

@@ -1,10 +1,10 @@
 -- What was read of a file tells what stands in it.
-use Rattle.std.proofs.Common.{◌≡◌, ◌≢◌, ◌⊎◌, ◌<◌, ◌≤◌, inl, inr, ℕ, ◌+◌, ◌-◌, Bool, true, min, List, ◌∷◌, ◌++◌, length, get_or, take, drop, refl, sym, ◌∙◌, ap, subst, arith, append_assoc, length-append, take-append-drop}
-use Rattle.std.specs.Prelude.{Option, None, Some, IfSome, IsTrue, ◌↔◌}
+use Rattle.std.proofs.Common.{◌≡◌, ◌≢◌, ◌⊎◌, ◌<◌, ◌≤◌, inl, inr, ℕ, ◌+◌, ◌-◌, Bool, true, min, List, ◌∷◌, ◌++◌, length, get_or, take, drop, sym, ◌∙◌, ap, subst, arith, append_assoc, take-append-drop}
+use Rattle.std.specs.Prelude.{Option, None, Some, IfSome}
 use Rattle.std.proofs.lemmas.List.{drop_more, drop-append-le, length-drop, length-take, length-take-le, take-take, take_min}
 use Rattle.wif_base.specs.Disk.{Told, told_synced}
 use Rattle.grant_journal.specs.JournalBytes.{four_bytes, marker}
-use Rattle.grant_journal.specs.Places.{HasMarker, IsClosedAt, IsRecordAt, number_at, PassesEnd, IsTooLongAt}
+use Rattle.grant_journal.specs.Places.{HasMarker, IsClosedAt, IsRecordAt, PassesEnd, IsTooLongAt}
 use Rattle.grant_journal.specs.Reading.{IsReadOf}
 use Rattle.grant_journal.specs.declared.journal_file.JournalFile.{JournalFile}
 use Rattle.grant_journal.proofs.Finding.{byte_at, record_from, number_there}

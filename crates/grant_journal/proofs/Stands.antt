@@ -1,11 +1,11 @@
 -- What a settled disk and one that reads as a journal may leave.
-use Rattle.std.proofs.Common.{◌≡◌, ◌⊎◌, ◌≤◌, inl, inr, ℕ, ◌+◌, List, [], ◌∷◌, ◌++◌, length, refl, sym, ap, ◌∙◌, subst, arith}
+use Rattle.std.proofs.Common.{◌≡◌, ◌⊎◌, inl, inr, ℕ, ◌+◌, List, [], ◌∷◌, ◌++◌, length, refl, sym, ap, ◌∙◌, subst, arith}
 use Rattle.std.specs.Prelude.{Option, None, Some}
 use Rattle.wif_base.specs.Disk.{Held, Told, MayLeave, LeavesNow, told_synced, after_sync}
 use Rattle.wif_base.proofs.Images.{synced, itself}
 use Rattle.grant_journal.specs.JournalBytes.{StandsFor, IsBeforeOrAfter, Rests, Settled, ReadsAs, before_gate, journal_bytes}
 use Rattle.grant_journal.specs.Places.{IsBehind, IsClosedAt}
-use Rattle.grant_journal.proofs.Finding.{behind_closed, behind_size, journal_size}
+use Rattle.grant_journal.proofs.Finding.{behind_closed, journal_size}
 use Rattle.grant_journal.proofs.Unique.{one_list}
 
 pub settled_now : (texts : List (List ℕ)) (len : ℕ) (told : Option Told) → Settled texts len told → LeavesNow told (StandsFor texts)

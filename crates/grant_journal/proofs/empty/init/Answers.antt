@@ -1,6 +1,5 @@
-use Rattle.std.proofs.Common.{◌∙◌, ap, refl, sym, subst, ◌∷◌, [], length}
-use Rattle.wif_base.specs.Disk.{told_written, told_synced, FailsWrite, LeavesNow, Leaves}
-use Rattle.grant_journal.specs.Emptying.{IsEmptyOrNone}
+use Rattle.std.proofs.Common.{◌∙◌, ap, refl, subst, ◌∷◌, []}
+use Rattle.wif_base.specs.Disk.{told_written, told_synced, FailsWrite}
 use Rattle.grant_journal.proofs.Emptying.{empty_failed, empty_written, empty_synced}
 use Rattle.grant_journal.proofs.empty.init.Goals as goal
 

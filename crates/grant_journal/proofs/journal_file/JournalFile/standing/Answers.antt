@@ -1,4 +1,4 @@
-use Rattle.std.proofs.Common.{rules, ◌≡◌, ◌≢◌, ◌∙◌, ap, sym, inl, ℕ, List, length, get_or, take, drop, arith}
+use Rattle.std.proofs.Common.{rules, ◌≡◌, ◌∙◌, ap, sym, inl, ℕ, List, length, take, drop, arith}
 use Rattle.grant_journal.proofs.Looking.{closed_read, short_read, end_read, long_read, text_read}
 use Rattle.grant_journal.proofs.journal_file.JournalFile.standing.Goals as goal
 
