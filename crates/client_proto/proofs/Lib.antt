@@ -1,0 +1,7 @@
+pub mod FieldLists
+pub mod FormLemmas
+pub mod Forms
+pub mod NumberLemmas
+pub mod ReplyLemmas
+pub mod UrlLemmas
+pub mod Visibles

@@ -1,0 +1,5 @@
+pub mod Leasing
+pub mod Newest
+pub mod Pieces
+pub mod Stepping
+pub mod Telling
