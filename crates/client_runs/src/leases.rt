@@ -170,7 +170,7 @@ fn told_renewed(
     inputs: &Inputs,
 ) -> Result<String, AllocError> {
     let mut flight = Flight::new(alloc, link, config, inputs.number(1).min(3600));
-    let start = inputs.number(2).min(1_000_000_000);
+    let start = inputs.number(2).min(100_000_000_000);
     let count = inputs.number(3).min(1_000_000_000);
     let last = last_answer(alloc, &mut flight, start, count);
     let answers = told_answers(alloc, &mut flight, inputs.text(6));
@@ -188,7 +188,7 @@ fn last_answer(
     start: u64,
     count: u64,
 ) -> Result<String, AllocError>
-    requires start { start ≤ 1_000_000_000 }
+    requires start { start ≤ 100_000_000_000 }
     requires count { count ≤ 1_000_000_000 }
 {
     let mut last = String::new(alloc);
