@@ -1,0 +1,12 @@
+pub mod BackCommands
+pub mod BackMappings
+pub mod BackParts
+pub mod BackProviders
+pub mod MappingMembers
+pub mod NamesInAscii
+pub mod ReadCommands
+pub mod ReadMappings
+pub mod ReadParts
+pub mod ReadProviders
+pub mod WrittenCommands
+pub mod WrittenTexts

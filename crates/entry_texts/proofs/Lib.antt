@@ -1,0 +1,9 @@
+pub mod Back
+pub mod BoundariesExact
+pub mod Clean
+pub mod Commands
+pub mod EntriesExact
+pub mod Floats
+pub mod PartsBack
+pub mod Says
+pub mod Utf8

@@ -1,0 +1,4 @@
+pub mod Exact
+pub mod Parts
+pub mod Reading
+pub mod Written
