@@ -1,0 +1,4 @@
+pub mod KeptJournals
+mod Reading
+pub mod Refusals
+pub mod Texts

@@ -1,0 +1,3 @@
+pub mod Journals
+pub mod Opening
+pub mod Replays
