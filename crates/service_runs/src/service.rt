@@ -4,6 +4,7 @@ use case_inputs::{Inputs, escaped};
 use iam_names::{Permission, Resource};
 use links::{State, admits, chain_of};
 use service_config::{Config, read_service_config};
+use service_journal::OpenFault;
 use std::alloc::{AllocError, Global};
 use sts_core::Sts;
 use sts_serve::{Found, Served, read_frame, run_script};
@@ -11,6 +12,8 @@ use wif_base::{MemDisk, MemSink, MemSource};
 
 const CONFIG: &[u8] =
     br#"{"issuer":"https://sts.example","key":"U1NTU1NTU1NTU1NTU1NTU1NTU1NTU1NTU1NTU1NTU1M","admin":"admin-secret-000001","gate":"gate-secret-0000001"}"#;
+
+const EMPTY_JOURNAL: &[u8] = b"WIFJ0001\0";
 
 /// `frame BYTES`: the size of the frame at their front, or whether one can become of them.
 pub(crate) fn frame(alloc: Global, inputs: &Inputs) -> Result<String, AllocError> {
@@ -25,7 +28,7 @@ pub(crate) fn frame(alloc: Global, inputs: &Inputs) -> Result<String, AllocError
 pub(crate) fn script(alloc: Global, inputs: &Inputs) -> Result<String, AllocError> {
     let mut output = MemSink::new(Vec::with_capacity(alloc, 65536)?, Vec::new(alloc));
     let Some((sts, end)) = run(alloc, inputs.bytes(0), &mut output)? else {
-        return "no configuration".to_owned(alloc);
+        return "no service".to_owned(alloc);
     };
     drop(sts.close());
     let written = escaped(alloc, output.bytes.as_slice())?;
@@ -36,9 +39,9 @@ pub(crate) fn script(alloc: Global, inputs: &Inputs) -> Result<String, AllocErro
 pub(crate) fn chains(alloc: Global, inputs: &Inputs) -> Result<String, AllocError> {
     let mut output = MemSink::new(Vec::with_capacity(alloc, 65536)?, Vec::new(alloc));
     let Some((sts, _)) = run(alloc, inputs.bytes(0), &mut output)? else {
-        return "no configuration".to_owned(alloc);
+        return "no service".to_owned(alloc);
     };
-    let told = chains_in(alloc, &sts.state);
+    let told = chains_in(alloc, sts.state());
     drop(sts.close());
     told
 }
@@ -57,9 +60,9 @@ fn chains_in(alloc: Global, state: &State) -> Result<String, AllocError> {
 pub(crate) fn admitted(alloc: Global, inputs: &Inputs) -> Result<String, AllocError> {
     let mut output = MemSink::new(Vec::with_capacity(alloc, 65536)?, Vec::new(alloc));
     let Some((sts, _)) = run(alloc, inputs.bytes(3), &mut output)? else {
-        return "no configuration".to_owned(alloc);
+        return "no service".to_owned(alloc);
     };
-    let told = admitted_in(alloc, &sts.state, inputs);
+    let told = admitted_in(alloc, sts.state(), inputs);
     drop(sts.close());
     told
 }
@@ -94,7 +97,7 @@ fn run(
 ) -> Result<Option<(Sts<MemDisk>, Served)>, AllocError> {
     let mut input = MemSource::new(frames.to_vec(alloc)?, Vec::new(alloc));
     match read_service_config(alloc, CONFIG) {
-        Ok(config) => Ok(Some(run_under(alloc, &config, &mut input, output)?)),
+        Ok(config) => run_under(alloc, &config, &mut input, output),
         Err(_) => Ok(None),
     }
 }
@@ -104,11 +107,16 @@ fn run_under(
     config: &Config,
     input: &mut MemSource,
     output: &mut MemSink,
-) -> Result<(Sts<MemDisk>, Served), AllocError>
+) -> Result<Option<(Sts<MemDisk>, Served)>, AllocError>
     requires { IsFormedConfig config.now }
 {
-    let disk = MemDisk::new(alloc, b"", 0, 0, Vec::new(alloc))?;
-    let mut sts = Sts::open(alloc, disk, config)?;
-    let end = run_script(alloc, &mut sts, input, output);
-    Ok((sts, end))
+    let disk = MemDisk::new(alloc, EMPTY_JOURNAL, 262_144, 4096, Vec::new(alloc))?;
+    match Sts::open(alloc, disk, config) {
+        Ok(mut sts) => {
+            let end = run_script(alloc, &mut sts, input, output);
+            Ok(Some((sts, end)))
+        }
+        Err(OpenFault::Memory) => Err(AllocError),
+        Err(OpenFault::Fault) | Err(OpenFault::Refused { .. }) => Ok(None),
+    }
 }

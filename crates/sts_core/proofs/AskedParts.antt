@@ -68,6 +68,11 @@ pub still_formed : {X : Type 0} (test : X → Bool) (found : Option X) (P : X �
 still_formed test None P is = tt
 still_formed test (Some x) P is = still x (test x) P is
 
+-- ---- an object
+
+pub object_utf8 : (text : List ℕ) → IfSome (object_of text) HasUtf8
+object_utf8 text = still_formed is_object (document text) HasUtf8 (read_document_utf8 text)
+
 -- ---- the boundary
 
 said_by : (text : List ℕ) (found : _) → condition_in text ≡ found → IsUtf8 text → IfSome found IsSaid

@@ -1,8 +1,8 @@
 -- The laws of checks, and of the journal that each step leaves.
-use Rattle.std.proofs.Common.{◌≡◌, ℕ, ◌≤◌, ◌^◌, ◌∷◌, [], List, Bool, true, false, ◌&&◌, length, refl, sym, ap, ◌∙◌, subst, arith}
+use Rattle.std.proofs.Common.{◌≡◌, ℕ, ◌≤◌, ◌^◌, ◌∷◌, ◌++◌, [], List, Bool, true, false, ◌&&◌, length, refl, sym, ap, ◌∙◌, subst, arith}
 use Rattle.std.proofs.lemmas.Bool.{and_from, and_parts}
 use Rattle.std.specs.List.{list_all}
-use Rattle.std.specs.Prelude.{◌↔◌, ⊤, nat_lt, IfOk, IfSome, Option, None, Some, Result, Ok, Err, option_and_then, if◌then◌else◌}
+use Rattle.std.specs.Prelude.{◌↔◌, ⊤, codes, nat_lt, IfOk, IfSome, Option, None, Some, Result, Ok, Err, option_and_then, if◌then◌else◌}
 use Rattle.base_types.specs.Rules.{first_failing}
 use Rattle.serde_json.specs.Data.{Data}
 use Rattle.hmac_jws.specs.Verified.{first_jws_fault, MacGood}
@@ -47,10 +47,12 @@ use Rattle.exchange_form.specs.declared.exchange_rule.ExchangeRule.{ExchangeRule
 use Rattle.sts_core.specs.Asked.{asked_for}
 use Rattle.exchange_form.specs.Forms.{form_of, object_of}
 use Rattle.sts_core.specs.Generated.{generated_for}
-use Rattle.sts_core.specs.declared.generate_rule.GenerateRule.{GenerateRule}
+use Rattle.sts_replies.specs.declared.generate_rule.GenerateRule.{GenerateRule}
 use Rattle.sts_core.specs.Machine.{administration, command_in, commanded, commanded_by, exchange, exchanged, generate, generate_asked, generate_ruled, is_bearer}
-use Rattle.sts_core.specs.Machine.{no_entry, ruled, step, step_of, with_entry}
-use Rattle.sts_core.specs.Replies.{u1}
+use Rattle.sts_core.specs.Machine.{fitted, no_entry, ruled, step, step_of, with_entry}
+use Rattle.service_journal.specs.Journals.{fits_behind, journal_size}
+use Rattle.wif_base.specs.declared.request.Reply.{Reply}
+use Rattle.sts_replies.specs.Replies.{journal_full, u1}
 use Rattle.sts_core.specs.Check.{check_decision, chain_or_carried, issued_chain, first_denial, link_decision}
 use Rattle.sts_core.proofs.Formed.{asked_formed}
 use Rattle.sts_core.proofs.FormedImpersonations.{generated_formed}
@@ -274,17 +276,33 @@ generate_lawful config journal account request now low lawful =
     let c = content_of config journal in
     generate_asked_lawful config journal (generated_for c account request now) (generated_formed c account request now low) lawful
 
-route_lawful : (config : Config) (journal : List Entry) (request : Request) (route : Route) (now : ℕ) → now ≤ 200_000_000_000 → Lawful config journal
-    → Lawful config (with_entry journal (step_of route config (content_of config journal) request now).entry)
-route_lawful config journal request Token now low lawful = exchange_lawful config journal request now low lawful
-route_lawful config journal request (Generate account) now low lawful = generate_lawful config journal account request now low lawful
-route_lawful config journal request Introspect now low lawful = lawful
-route_lawful config journal request Check now low lawful = lawful
-route_lawful config journal request Admin now low lawful = administration_lawful config journal config.admin request lawful
+fitted_by : (config : Config) (journal : List Entry) (code : List ℕ) (reply : Reply) (e : Entry) (fits : Bool) → Lawful config journal → Lawful config (journal ++ e ∷ [])
+    → Lawful config (with_entry journal (if fits then (record { reply = reply; entry = Some e }) else no_entry (journal_full code)).entry)
+fitted_by config journal code reply e true lawful with_it = with_it
+fitted_by config journal code reply e false lawful with_it = lawful
+
+fitted_lawful : (config : Config) (journal : List Entry) (size : ℕ) (code : List ℕ) (reply : Reply) (e : Option Entry) → Lawful config journal
+    → Lawful config (with_entry journal e) → Lawful config (with_entry journal (fitted size code reply e).entry)
+fitted_lawful config journal size code reply None lawful with_it = lawful
+fitted_lawful config journal size code reply (Some e) lawful with_it = fitted_by config journal code reply e (fits_behind size e) lawful with_it
+
+route_lawful : (config : Config) (journal : List Entry) (size : ℕ) (request : Request) (route : Route) (now : ℕ) → now ≤ 200_000_000_000 → Lawful config journal
+    → Lawful config (with_entry journal (step_of route config (content_of config journal) size request now).entry)
+route_lawful config journal size request Token now low lawful =
+    let answer = exchange (content_of config journal) request now in
+    fitted_lawful config journal size (codes "E26") answer.reply answer.entry lawful (exchange_lawful config journal request now low lawful)
+route_lawful config journal size request (Generate account) now low lawful =
+    let answer = generate (content_of config journal) account request now in
+    fitted_lawful config journal size (codes "I12") answer.reply answer.entry lawful (generate_lawful config journal account request now low lawful)
+route_lawful config journal size request Introspect now low lawful = lawful
+route_lawful config journal size request Check now low lawful = lawful
+route_lawful config journal size request Admin now low lawful =
+    let answer = administration config.admin (content_of config journal) request in
+    fitted_lawful config journal size (codes "A7") answer.reply answer.entry lawful (administration_lawful config journal config.admin request lawful)
 
 pub step_lawful : (config : Config) (journal : List Entry) (request : Request) (now : ℕ) → now ≤ 200_000_000_000 → Lawful config journal
     → Lawful config (with_entry journal (step config journal request now).entry)
-step_lawful config journal request now low lawful = route_lawful config journal request request.route now low lawful
+step_lawful config journal request now low lawful = route_lawful config journal (journal_size journal) request request.route now low lawful
 
 -- ---- the state that a step leaves
 

@@ -27,8 +27,8 @@ use Rattle.wif_base.specs.Routes.{before_suffix}
 use Rattle.wif_base.specs.declared.request.Request.{Request}
 use Rattle.sts_core.specs.Asked.{live_issued}
 use Rattle.sts_core.specs.Generated.{delegate_of, delegates_of, generated_for, given, is_lifetime, lifetime_of, scope_of, seconds_of, word_of}
-use Rattle.sts_core.specs.declared.generate_rule.GenerateRule.{GenerateRule}
-use Rattle.sts_core.specs.declared.generate_rule.GenerateRule.TheVariants.{I1, I2, I3, I4, I5, I6, I7}
+use Rattle.sts_replies.specs.declared.generate_rule.GenerateRule.{GenerateRule}
+use Rattle.sts_replies.specs.declared.generate_rule.GenerateRule.TheVariants.{I1, I2, I3, I4, I5, I6, I7}
 use Rattle.sts_core.proofs.AskedParts.{after_step, anything, still_formed, where_needed, where_there}
 
 -- ---- lists

@@ -20,8 +20,8 @@ use Rattle.wif_base.specs.Routes.{before_suffix}
 use Rattle.wif_base.specs.declared.request.Request.{Request}
 use Rattle.sts_core.specs.Asked.{live_issued}
 use Rattle.exchange_form.specs.Forms.{object_of}
-use Rattle.sts_core.specs.declared.generate_rule.GenerateRule.{GenerateRule}
-use Rattle.sts_core.specs.declared.generate_rule.GenerateRule.TheVariants.{I1, I2, I3, I4, I5, I6, I7}
+use Rattle.sts_replies.specs.declared.generate_rule.GenerateRule.{GenerateRule}
+use Rattle.sts_replies.specs.declared.generate_rule.GenerateRule.TheVariants.{I1, I2, I3, I4, I5, I6, I7}
 
 -- a member that is null counts as absent
 abbrev pub given : Option Data → Option Data

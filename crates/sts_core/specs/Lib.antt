@@ -3,7 +3,7 @@ pub mod Asked
 pub mod Check
 pub mod Generated
 pub mod Machine
-pub mod Refusals
-pub mod Replies
+pub mod Opened
+pub mod Proposals
 pub mod Runs
 pub mod State

@@ -29,9 +29,10 @@ use Rattle.sts_core.specs.Asked.{asked_for}
 use Rattle.exchange_form.specs.declared.exchange_rule.ExchangeRule.{ExchangeRule}
 use Rattle.exchange_form.specs.Forms.{form_of, is_all_text, object_of, once}
 use Rattle.sts_core.specs.Generated.{generated_for}
-use Rattle.sts_core.specs.declared.generate_rule.GenerateRule.{GenerateRule}
-use Rattle.sts_core.specs.Refusals.{refusal_of, exchange_refusal, generate_refusal, command_refusal}
-use Rattle.sts_core.specs.Replies.{u1, n1, n2, a1, bad_argument, decision_reply, inactive, issued, generated, entered}
+use Rattle.sts_replies.specs.declared.generate_rule.GenerateRule.{GenerateRule}
+use Rattle.sts_replies.specs.Refusals.{refusal_of, exchange_refusal, generate_refusal, command_refusal}
+use Rattle.service_journal.specs.Journals.{fits_behind, journal_size}
+use Rattle.sts_replies.specs.Replies.{u1, n1, n2, a1, bad_argument, decision_reply, inactive, issued, generated, entered, journal_full}
 
 -- the reply to a request, and the entry that it adds to the journal, if any
 pub record Answer : Type 0 where
@@ -138,19 +139,30 @@ check_in c now (Some d) =
 unfoldable pub checking : List ℕ → Content → Request → ℕ → Reply
 checking gate c request now = if is_bearer gate request.bearer then check_in c now (object_of request.body) else u1
 
+-- ---- the journal's room
+
+-- the reply and its entry, where the entry fits behind a journal of so many bytes; else the journal is full
+abbrev pub fitted : ℕ → List ℕ → Reply → Option Entry → Answer
+fitted size code reply None = no_entry reply
+fitted size code reply (Some entry) = if fits_behind size entry then (record { reply = reply; entry = Some entry }) else no_entry (journal_full code)
+
+-- the answer, where its entry fits behind a journal of so many bytes
+abbrev pub where_it_fits : ℕ → List ℕ → Answer → Answer
+where_it_fits size code answer = fitted size code answer.reply answer.entry
+
 -- ---- any request
 
--- the machine's answer to a request of a route
-abbrev pub step_of : Route → Config → Content → Request → ℕ → Answer
-step_of Token config c request now = exchange c request now
-step_of (Generate account) config c request now = generate c account request now
-step_of Introspect config c request now = no_entry (introspection_reply config.gate c request now)
-step_of Check config c request now = no_entry (checking config.gate c request now)
-step_of Admin config c request now = administration config.admin c request
+-- the machine's answer to a request of a route, over a journal of so many bytes
+abbrev pub step_of : Route → Config → Content → ℕ → Request → ℕ → Answer
+step_of Token config c size request now = where_it_fits size (codes "E26") (exchange c request now)
+step_of (Generate account) config c size request now = where_it_fits size (codes "I12") (generate c account request now)
+step_of Introspect config c size request now = no_entry (introspection_reply config.gate c request now)
+step_of Check config c size request now = no_entry (checking config.gate c request now)
+step_of Admin config c size request now = where_it_fits size (codes "A7") (administration config.admin c request)
 
 -- the machine's answer to a request over a journal
 abbrev pub step : Config → List Entry → Request → ℕ → Answer
-step config journal request now = step_of request.route config (content_of config journal) request now
+step config journal request now = step_of request.route config (content_of config journal) (journal_size journal) request now
 
 -- the journal with the entry, if there is one
 abbrev pub with_entry : List Entry → Option Entry → List Entry

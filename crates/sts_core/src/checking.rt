@@ -2,10 +2,9 @@ ghost use Rattle.std.specs.Prelude.{◌≡◌, IfOk, Some};
 ghost use Rattle.serde_json.specs.View.{view};
 ghost use Rattle.sts_core.specs.Check.{check_decision};
 ghost use Rattle.sts_core.specs.Machine.{checking, check_in};
-ghost use Rattle.sts_core.specs.Replies.{decision_reply};
+ghost use Rattle.sts_replies.specs.Replies.{decision_reply};
 
 use crate::introspection::is_bearer;
-use crate::reply::{bad_argument, decided, no_bearer};
 use base_types::Text;
 use exchange_form::read_object;
 use grant_gate::{Decision, decide};
@@ -15,6 +14,7 @@ use links::State;
 use serde_json::Value;
 use std::alloc::{AllocError, Global};
 use sts_admin::name_at;
+use sts_replies::{bad_argument, decided, no_bearer};
 use wif_base::{Reply, Request};
 
 /// Answers a check.

@@ -10,11 +10,10 @@ ghost use Rattle.serde_json.specs.View.{view};
 ghost use Rattle.sts_core.specs.Answers.{Gives, Refuses};
 ghost use Rattle.sts_core.specs.Asked.{live_issued as issued_at};
 ghost use Rattle.sts_core.specs.Generated as generated;
-ghost use Rattle.sts_core.specs.declared.generate_rule.GenerateRule.TheVariants.{I2, I3, I4, I5, I6, I7};
+ghost use Rattle.sts_replies.specs.declared.generate_rule.GenerateRule.TheVariants.{I2, I3, I4, I5, I6, I7};
 ghost use Rattle.wif_base.specs.Routes.{before_suffix};
 
 use crate::asking::live_issued;
-use crate::generate_rule::GenerateRule;
 use crate::rule_stop::RuleStop;
 use base_types::{Items, Text, both};
 use exchange_form::read_object;
@@ -23,6 +22,7 @@ use json_text::{ReadFault, ReadsJson, short_list};
 use links::{Entry, Impersonation, State, knows_words};
 use serde_json::Value;
 use std::alloc::{AllocError, Global};
+use sts_replies::GenerateRule;
 use wif_base::Request;
 
 const DELEGATES: usize = 4;

@@ -3,12 +3,12 @@ ghost use Rattle.links.specs.State.{chain};
 ghost use Rattle.sts_core.specs.Check.{issued_chain};
 ghost use Rattle.sts_core.specs.Machine.{introspection_reply, is_bearer as bearer_is, told};
 
-use crate::reply::{inactive, json_reply, no_bearer, no_text, no_token};
 use access_token::write_active;
 use base_types::Text;
 use exchange_form::{is_all_text, once, read_form};
 use links::{State, facts_of, find_issued, live};
 use std::alloc::{AllocError, Global};
+use sts_replies::{inactive, json_reply, no_bearer, no_text, no_token};
 use wif_base::{Reply, Request};
 
 /// Answers an introspection (RFC 7662).

@@ -6,15 +6,17 @@ mod asking;
 mod checking;
 mod exchange;
 mod generate;
-mod generate_rule;
 mod generating;
 mod introspection;
 mod laws;
+mod opening;
 mod options;
+mod proposal;
 mod recording;
-mod refusal;
-mod reply;
 mod rule_stop;
+mod setting_up;
+mod setup;
+mod stop;
 mod sts;
 
 pub use laws::{
@@ -23,5 +25,8 @@ pub use laws::{
     checks_are_decided_by_their_links, each_step_keeps_the_journal_lawful,
     gate_agrees_with_the_chain,
 };
-pub use reply::not_found;
-pub use sts::{Setup, Stop, Sts, set_up};
+pub use opening::{Opening, open_on};
+pub use setting_up::set_up;
+pub use setup::Setup;
+pub use stop::Stop;
+pub use sts::Sts;

@@ -1,97 +1,150 @@
-ghost use Rattle.std.specs.Prelude.{◌≡◌, ◌≤◌, IfOk, OnOk, OnErr, List, []};
-ghost use Rattle.service_config.specs.declared.config.Config.{Config as Configuration};
-ghost use Rattle.service_config.specs.Formed.{IsFormedConfig};
+ghost use Rattle.std.specs.Prelude.{◌≡◌, ◌≤◌, ◌+◌, ◌*◌, ℕ, List, true, false, length, IfOk, IfErr, IfSome, OnOk, Err, Option, ◌⊎◌, codes};
 ghost use Rattle.links.specs.declared.entry.Entry.{Entry};
 ghost use Rattle.links.specs.State.{content_of};
-ghost use Rattle.sts_core.specs.Machine.{exchange as exchange_of, generate as generate_of, administration, checking, introspection_reply, step, with_entry};
-ghost use Rattle.sts_core.specs.State.{IsSetUp, Stands};
+ghost use Rattle.grant_journal.specs.declared.rule.JournalRule.{JournalRule as Rule};
+ghost use Rattle.service_config.specs.declared.config.Config.{Config as Configuration};
+ghost use Rattle.service_config.specs.Formed.{IsFormedConfig};
+ghost use Rattle.service_journal.specs.Opening.{IsRefusedAt};
+ghost use Rattle.service_journal.specs.declared.opening.OpenFault.TheVariants as faults;
+ghost use Rattle.grant_journal.specs.JournalBytes.{ReadsAs};
+ghost use Rattle.service_journal.specs.Journals.{journal_size, texts_of};
+ghost use Rattle.sts_core.specs.Machine.{exchange as exchange_of, generate as generate_of, administration, checking, introspection_reply, step, where_it_fits, with_entry};
+ghost use Rattle.sts_core.specs.Opened.{FindsService};
+ghost use Rattle.sts_core.specs.State.{Causes, Stands, StandsForEither, Stays};
+ghost use Rattle.sts_core.specs.declared.stop.Stop.TheVariants as stops;
+ghost use Rattle.wif_base.specs.Disk.{Leaves, Told};
 
 use crate::administration::administer;
 use crate::checking::check;
 use crate::exchange::exchange;
 use crate::generate::generate;
 use crate::introspection::introspect;
+use crate::recording::carry_out;
+use crate::{Opening, Stop, open_on, set_up};
 use base_types::Text;
-use links::{State, start};
+use grant_journal::Journal;
+use links::State;
 use service_config::Config;
+use service_journal::OpenFault;
 use std::alloc::{AllocError, Global};
+use std::marker::Model;
 use wif_base::{Disk, Reply, Request, Route};
 
-/// Why a request got no reply.
-#[derive(Clone, Copy, Debug, PartialEq, Eq)]
-pub enum Stop {
-    Memory,
-}
-
-impl From<AllocError> for Stop {
-    ghost use Rattle.std.specs.Prelude.{◌≡◌};
-    ghost use Rattle.sts_core.specs.declared.sts.Stop.TheVariants.{Memory};
-
-    ghost from_gives = { λ _ e. e ≡ Memory };
-
-    fn from(_: AllocError) -> Self {
-        Stop::Memory
-    }
-}
-
-/// The service over a disk. What it stands for is a configuration and a journal that it doesn't keep.
+/// The service over a disk. What it stands for is a configuration and a journal, which it keeps on the disk alone.
 #[derive(Drop)]
-pub struct Sts<D> {
-    pub disk: D,
-    /// The bearer of admin commands.
-    pub admin: Text,
-    /// The bearer of checks and introspections.
-    pub gate: Text,
-    pub state: State,
+pub struct Sts<D: Disk> {
+    // The bearer of admin commands.
+    admin: Text,
+    // The bearer of checks and introspections.
+    gate: Text,
+    state: State,
+    journal: Journal<D>,
+}
+
+impl<D: Disk> Model for Sts<D> {
+    ghost use Rattle.std.specs.Coded.{codes};
+    ghost use Rattle.std.specs.Prelude.{◌≡◌, ◌≤◌, ◌+◌, ◌*◌, false};
+    ghost use Rattle.cel_values.specs.contracts.expr.Expr as tree;
+    ghost use Rattle.sts_core.specs.State.{Standing};
+
+    ghost Value = { Standing };
+
+    ghost coded = { Prim.hlevel (codes, tree.the_row.coded) };
+
+    ghost view = { λ s. record { content = s.state.content; admin = s.admin; gate = s.gate; journal = s.journal } };
+
+    // Each entry has five bytes of the journal and more.
+    ghost invariant = { λ s. s.journal.broken ≡ false → 9 + 5 * s.state.content.count ≤ s.journal.len };
 }
 
 impl<D: Disk> Sts<D> {
-    /// The service of a configuration, with an empty journal.
-    pub fn open(alloc: Global, disk: D, config: &Config) -> Result<Self, AllocError>
+    /// Opens the service of a configuration over the journal on a disk. Each entry of it is read, and licensed again. Where the disk is
+    /// wanted back, whatever comes, call `open_on` and `resume`.
+    pub fn open(alloc: Global, disk: D, config: &Config) -> Result<Self, OpenFault>
         requires formed { IsFormedConfig config.now }
-        ensures stands { IfOk result (λ sts. Stands sts config.now []) }
-        ensures disk { IfOk result (λ sts. sts.disk ≡ disk) }
+        ensures stands { IfOk result (λ sts. (journal : List Entry) × Stands sts config.now journal × ReadsAs (texts_of journal) (D.told disk)) }
+        ensures refused { (at : ℕ) (rule : Rule) → result ≡ Err (faults.Refused at rule)
+            → IfSome (D.told disk) (λ told. IsRefusedAt config.now told.now.bytes at rule) }
     {
-        match set_up(alloc, config) {
-            Ok(setup) => Ok(Sts::resume(disk, setup)),
+        let mut disk = disk;
+        let setup = match set_up(alloc, config) {
+            Ok(setup) => setup,
             Err(AllocError) => {
                 drop(disk);
-                Err(AllocError)
+                return Err(OpenFault::Memory);
+            }
+        };
+        match open_on(alloc, &mut disk, setup) {
+            Ok(opening) => Ok(Sts::resume(disk, opening)),
+            Err(fault) => {
+                drop(disk);
+                Err(fault)
             }
         }
     }
 
-    /// The service of what a configuration set up, with an empty journal. It takes no memory.
-    pub fn resume(disk: D, setup: Setup) -> Self
-        ensures stands { (config : Configuration) → IsSetUp setup config → Stands result config [] }
-        ensures disk { result.disk ≡ disk }
+    /// The service that was opened, over its disk. It takes no memory.
+    pub fn resume(disk: D, opening: Opening) -> Self
+        requires inside { IfSome (D.told disk) (λ told. opening.journal.end.len ≤ length told.now.bytes) }
+        requires few { 9 + 5 * opening.journal.state.content.count ≤ opening.journal.end.len }
+        ensures parts { (result.content ≡ opening.journal.state.content) × (result.admin ≡ opening.admin) × (result.gate ≡ opening.gate) }
+        ensures journal { (result.journal.len ≡ opening.journal.end.len) × (result.journal.broken ≡ false) }
+        ensures told { result.journal.told ≡ D.told disk }
+        ensures faults { result.journal.faults ≡ D.faults disk }
+        ensures lender { result.journal.lender ≡ D.lender disk }
+        ensures stands { (config : Configuration) (held : Option Told) → FindsService config held (D.told disk) opening
+            → (journal : List Entry) × Stands result config journal × ReadsAs (texts_of journal) held }
     {
         Sts {
-            disk,
-            admin: setup.admin,
-            gate: setup.gate,
-            state: setup.state,
+            admin: opening.admin,
+            gate: opening.gate,
+            state: opening.journal.state,
+            journal: Journal::resume(disk, opening.journal.end),
         }
     }
 
     /// Gives the disk back.
     pub fn close(self) -> D
-        ensures { result ≡ self.disk }
+        ensures told { D.told result ≡ self.journal.told }
+        ensures faults { D.faults result ≡ self.journal.faults }
+        ensures lender { D.lender result ≡ self.journal.lender }
     {
-        self.disk
+        let Sts {
+            admin: _admin,
+            gate: _gate,
+            state: _state,
+            journal,
+        } = self;
+        journal.close()
     }
 
-    /// Answers a request of any route, at a moment in seconds since 1970-01-01T00:00:00Z. With 2^32 - 1 entries in
-    /// the journal an exchange, a request for a service account's token or a command stops for want of memory.
+    /// What the journal's entries leave.
+    pub fn state(&self) -> &State
+        ensures { result.now.content ≡ self.now.content }
+    {
+        &self.state
+    }
+
+    /// Answers a request of any route, at a moment in seconds since 1970-01-01T00:00:00Z.
     pub fn answer(&mut self, alloc: Global, request: &Request, now: u64) -> Result<Reply, Stop>
         requires moment { now ≤ 200_000_000_000 }
         ensures reply { (config : Configuration) (journal : List Entry) → Stands self.old config journal
             → IfOk result (λ reply. reply ≡ (step config journal request.now now).reply) }
         ensures stands { (config : Configuration) (journal : List Entry) → Stands self.old config journal
             → OnOk result (Stands self.new config (with_entry journal (step config journal request.now now).entry)) }
-        ensures stays { (config : Configuration) (journal : List Entry) → Stands self.old config journal
-            → OnErr result (Stands self.new config journal) }
-        ensures disk { self.new.disk ≡ self.old.disk }
+
+        // A crash at any moment of the call leaves the journal from before it, with the entry or without.
+        ensures any_moment { (config : Configuration) (journal : List Entry) → Stands self.old config journal
+            → Leaves self.old.journal.told self.new.journal.told
+            (StandsForEither journal (with_entry journal (step config journal request.now now).entry)) }
+
+        // Why there is no reply, and what is left then.
+        ensures stays { IfErr result (λ stop. Stays stop self.old self.new) }
+        ensures cause { IfErr result (λ stop. Causes stop self.old.journal self.new.journal) }
+        ensures broken { self.old.journal.broken ≡ true → result ≡ Err stops.Broken }
+        ensures whole { OnOk result (self.new.journal.broken ≡ self.old.journal.broken) }
+        ensures count { self.old.journal.faults ≤ self.new.journal.faults }
+        ensures same { self.new.journal.lender ≡ self.old.journal.lender }
     {
         match &request.route {
             Route::Token => self.exchange(alloc, request, now),
@@ -106,17 +159,29 @@ impl<D: Disk> Sts<D> {
     pub fn exchange(&mut self, alloc: Global, request: &Request, now: u64) -> Result<Reply, Stop>
         requires moment { now ≤ 200_000_000_000 }
         ensures reply { (config : Configuration) (journal : List Entry) → Stands self.old config journal
-            → IfOk result (λ reply. reply ≡ (exchange_of (content_of config journal) request.now now).reply) }
+            → IfOk result (λ reply. reply ≡ (where_it_fits (journal_size journal) (codes "E26") (exchange_of (content_of config journal) request.now now)).reply) }
         ensures stands { (config : Configuration) (journal : List Entry) → Stands self.old config journal
-            → OnOk result (Stands self.new config (with_entry journal (exchange_of (content_of config journal) request.now now).entry)) }
-        ensures stays { (config : Configuration) (journal : List Entry) → Stands self.old config journal
-            → OnErr result (Stands self.new config journal) }
-        ensures disk { self.new.disk ≡ self.old.disk }
+            → OnOk result (Stands self.new config (with_entry journal (where_it_fits (journal_size journal) (codes "E26") (exchange_of (content_of config journal) request.now now)).entry)) }
+
+        // A crash at any moment of the call leaves the journal from before it, with the entry or without.
+        ensures any_moment { (config : Configuration) (journal : List Entry) → Stands self.old config journal
+            → Leaves self.old.journal.told self.new.journal.told
+            (StandsForEither journal (with_entry journal (where_it_fits (journal_size journal) (codes "E26") (exchange_of (content_of config journal) request.now now)).entry)) }
+
+        // Why there is no reply, and what is left then.
+        ensures stays { IfErr result (λ stop. Stays stop self.old self.new) }
+        ensures cause { IfErr result (λ stop. Causes stop self.old.journal self.new.journal) }
+        ensures broken { self.old.journal.broken ≡ true → result ≡ Err stops.Broken }
+        ensures whole { OnOk result (self.new.journal.broken ≡ self.old.journal.broken) }
+        ensures count { self.old.journal.faults ≤ self.new.journal.faults }
+        ensures same { self.new.journal.lender ≡ self.old.journal.lender }
     {
-        if self.state.is_full() {
-            return Err(Stop::Memory);
+        if self.journal.is_broken() {
+            return Err(Stop::Broken);
         }
-        exchange(alloc, &mut self.state, request, now)
+        let _ = self.journal.bytes();
+        let proposal = exchange(alloc, &mut self.state, request, now)?;
+        carry_out(alloc, &mut self.state, &mut self.journal, proposal, "E26")
     }
 
     /// Answers a request for a token of a service account, by one who may impersonate it.
@@ -129,77 +194,85 @@ impl<D: Disk> Sts<D> {
     ) -> Result<Reply, Stop>
         requires moment { now ≤ 200_000_000_000 }
         ensures reply { (config : Configuration) (journal : List Entry) → Stands self.old config journal
-            → IfOk result (λ reply. reply ≡ (generate_of (content_of config journal) account.now request.now now).reply) }
+            → IfOk result (λ reply. reply ≡ (where_it_fits (journal_size journal) (codes "I12") (generate_of (content_of config journal) account.now request.now now)).reply) }
         ensures stands { (config : Configuration) (journal : List Entry) → Stands self.old config journal
-            → OnOk result (Stands self.new config
-            (with_entry journal (generate_of (content_of config journal) account.now request.now now).entry)) }
-        ensures stays { (config : Configuration) (journal : List Entry) → Stands self.old config journal
-            → OnErr result (Stands self.new config journal) }
-        ensures disk { self.new.disk ≡ self.old.disk }
+            → OnOk result (Stands self.new config (with_entry journal (where_it_fits (journal_size journal) (codes "I12") (generate_of (content_of config journal) account.now request.now now)).entry)) }
+
+        // A crash at any moment of the call leaves the journal from before it, with the entry or without.
+        ensures any_moment { (config : Configuration) (journal : List Entry) → Stands self.old config journal
+            → Leaves self.old.journal.told self.new.journal.told
+            (StandsForEither journal (with_entry journal (where_it_fits (journal_size journal) (codes "I12") (generate_of (content_of config journal) account.now request.now now)).entry)) }
+
+        // Why there is no reply, and what is left then.
+        ensures stays { IfErr result (λ stop. Stays stop self.old self.new) }
+        ensures cause { IfErr result (λ stop. Causes stop self.old.journal self.new.journal) }
+        ensures broken { self.old.journal.broken ≡ true → result ≡ Err stops.Broken }
+        ensures whole { OnOk result (self.new.journal.broken ≡ self.old.journal.broken) }
+        ensures count { self.old.journal.faults ≤ self.new.journal.faults }
+        ensures same { self.new.journal.lender ≡ self.old.journal.lender }
     {
-        if self.state.is_full() {
-            return Err(Stop::Memory);
+        if self.journal.is_broken() {
+            return Err(Stop::Broken);
         }
-        generate(alloc, &mut self.state, account, request, now)
+        let _ = self.journal.bytes();
+        let proposal = generate(alloc, &mut self.state, account, request, now)?;
+        carry_out(alloc, &mut self.state, &mut self.journal, proposal, "I12")
     }
 
     /// Answers a command of an administrator, whatever the moment: what it puts stands in place of what stood under its name.
     pub fn admin(&mut self, alloc: Global, request: &Request, _now: u64) -> Result<Reply, Stop>
         ensures reply { (config : Configuration) (journal : List Entry) → Stands self.old config journal
-            → IfOk result (λ reply. reply ≡ (administration config.admin (content_of config journal) request.now).reply) }
+            → IfOk result (λ reply. reply ≡ (where_it_fits (journal_size journal) (codes "A7") (administration config.admin (content_of config journal) request.now)).reply) }
         ensures stands { (config : Configuration) (journal : List Entry) → Stands self.old config journal
-            → OnOk result (Stands self.new config (with_entry journal (administration config.admin (content_of config journal) request.now).entry)) }
-        ensures stays { (config : Configuration) (journal : List Entry) → Stands self.old config journal
-            → OnErr result (Stands self.new config journal) }
-        ensures disk { self.new.disk ≡ self.old.disk }
+            → OnOk result (Stands self.new config (with_entry journal (where_it_fits (journal_size journal) (codes "A7") (administration config.admin (content_of config journal) request.now)).entry)) }
+
+        // A crash at any moment of the call leaves the journal from before it, with the entry or without.
+        ensures any_moment { (config : Configuration) (journal : List Entry) → Stands self.old config journal
+            → Leaves self.old.journal.told self.new.journal.told
+            (StandsForEither journal (with_entry journal (where_it_fits (journal_size journal) (codes "A7") (administration config.admin (content_of config journal) request.now)).entry)) }
+
+        // Why there is no reply, and what is left then.
+        ensures stays { IfErr result (λ stop. Stays stop self.old self.new) }
+        ensures cause { IfErr result (λ stop. Causes stop self.old.journal self.new.journal) }
+        ensures broken { self.old.journal.broken ≡ true → result ≡ Err stops.Broken }
+        ensures whole { OnOk result (self.new.journal.broken ≡ self.old.journal.broken) }
+        ensures count { self.old.journal.faults ≤ self.new.journal.faults }
+        ensures same { self.new.journal.lender ≡ self.old.journal.lender }
     {
-        if self.state.is_full() {
-            return Err(Stop::Memory);
+        if self.journal.is_broken() {
+            return Err(Stop::Broken);
         }
-        administer(alloc, &self.admin, &mut self.state, request)
+        let _ = self.journal.bytes();
+        let proposal = administer(alloc, &self.admin, &mut self.state, request)?;
+        carry_out(alloc, &mut self.state, &mut self.journal, proposal, "A7")
     }
 
     /// Answers whether a token is admitted to a permission on a resource: exactly where the link that it was issued for is
     /// live and allows it and its principal is granted it, and for any other text by what it carries under the key.
     pub fn check(&self, alloc: Global, request: &Request, now: u64) -> Result<Reply, Stop>
-        ensures { (config : Configuration) (journal : List Entry) → Stands self.now config journal
+        ensures reply { (config : Configuration) (journal : List Entry) → Stands self.now config journal
             → IfOk result (λ reply. reply ≡ checking config.gate (content_of config journal) request.now now) }
+        ensures memory { IfErr result (λ stop. (stop ≡ stops.Memory) ⊎ (stop ≡ stops.Broken)) }
+        ensures cause { IfErr result (λ stop. Causes stop self.now.journal self.now.journal) }
+        ensures broken { self.now.journal.broken ≡ true → result ≡ Err stops.Broken }
     {
+        if self.journal.is_broken() {
+            return Err(Stop::Broken);
+        }
         Ok(check(alloc, &self.gate, &self.state, request, now)?)
     }
 
     /// Answers an introspection (RFC 7662).
     pub fn introspect(&self, alloc: Global, request: &Request, now: u64) -> Result<Reply, Stop>
-        ensures { (config : Configuration) (journal : List Entry) → Stands self.now config journal
+        ensures reply { (config : Configuration) (journal : List Entry) → Stands self.now config journal
             → IfOk result (λ reply. reply ≡ introspection_reply config.gate (content_of config journal) request.now now) }
+        ensures memory { IfErr result (λ stop. (stop ≡ stops.Memory) ⊎ (stop ≡ stops.Broken)) }
+        ensures cause { IfErr result (λ stop. Causes stop self.now.journal self.now.journal) }
+        ensures broken { self.now.journal.broken ≡ true → result ≡ Err stops.Broken }
     {
-        Ok(introspect(alloc, &self.gate, &self.state, request, now)?)
-    }
-}
-
-/// What a configuration sets up: the secrets, and the state before the first entry.
-#[derive(Drop)]
-pub struct Setup {
-    /// The bearer of admin commands.
-    pub admin: Text,
-    /// The bearer of checks and introspections.
-    pub gate: Text,
-    pub state: State,
-}
-
-/// Sets up a configuration, before a disk is looked at.
-pub fn set_up(alloc: Global, config: &Config) -> Result<Setup, AllocError>
-    requires formed { IsFormedConfig config.now }
-    ensures { IfOk result (λ setup. IsSetUp setup config.now) }
-{
-    let admin = config.admin.copy(alloc)?;
-    let gate = config.gate.copy(alloc)?;
-    match start(alloc, config) {
-        Ok(state) => Ok(Setup { admin, gate, state }),
-        Err(AllocError) => {
-            drop(admin);
-            drop(gate);
-            Err(AllocError)
+        if self.journal.is_broken() {
+            return Err(Stop::Broken);
         }
+        Ok(introspect(alloc, &self.gate, &self.state, request, now)?)
     }
 }

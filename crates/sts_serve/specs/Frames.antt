@@ -8,7 +8,7 @@ use Rattle.wif_base.specs.declared.request.Reply.{Reply}
 use Rattle.service_config.specs.declared.config.Config.{Config}
 use Rattle.links.specs.declared.entry.Entry.{Entry}
 use Rattle.sts_core.specs.Machine.{Answer, step, no_entry}
-use Rattle.sts_core.specs.Replies.{not_found}
+use Rattle.sts_replies.specs.Replies.{not_found}
 use Rattle.sts_serve.specs.declared.frame.Frame.{Frame}
 
 -- ---- frames

@@ -1,15 +1,18 @@
 -- What a run over a script read, wrote and recorded, and how each end comes.
-use Rattle.std.specs.Prelude.{◌≡◌, ◌≢◌, ◌≤◌, ◌⊎◌, ℕ, ◌+◌, List, [], ◌∷◌, ◌++◌, length, take, Option, ⊤}
+use Rattle.std.specs.Prelude.{◌≡◌, ◌≢◌, ◌≤◌, ◌<◌, ◌⊎◌, ℕ, ◌+◌, List, [], ◌∷◌, ◌++◌, length, Option, ⊤}
 use Rattle.std.specs.Io.KnownBytes.{Consumes, Appends, IsAtEnd}
 use Rattle.wif_base.specs.Carried.{input_limit}
+use Rattle.wif_base.specs.Disk.{Leaves}
 use Rattle.wif_base.specs.Output.{OutputIs}
 use Rattle.service_config.specs.declared.config.Config.{Config}
 use Rattle.links.specs.declared.entry.Entry.{Entry}
-use Rattle.sts_core.specs.Runs.{replies_of, entries_after}
+use Rattle.sts_core.specs.Runs.{replies_of}
+use Rattle.sts_core.specs.State.{Standing}
+use Rattle.sts_serve.specs.Left.{LeavesService, StandsForFront, entries_behind}
 use Rattle.sts_serve.specs.Frames.{ScriptBegins, NoFrame, NeverFrame, reply_frames, answer, script_text}
 use Rattle.sts_serve.specs.declared.frame.Frame.{Frame}
 use Rattle.sts_serve.specs.declared.served.Served.{Served}
-use Rattle.sts_core.specs.declared.sts.Stop.TheVariants.{Memory}
+use Rattle.sts_core.specs.declared.stop.Stop.TheVariants.{Memory, Journal, Broken}
 use Rattle.sts_serve.specs.declared.served.Served.TheVariants.{Done, ReadFault, WriteFault, ClockFault, Malformed, InputLimit, Stopped}
 
 -- What is known of each end: the bytes read, what the source has left, the frames that were found in them and the
@@ -28,11 +31,13 @@ EndsAs InputLimit read left frames rest answered = (length read ≡ input_limit 
     × ((within : List ℕ) × (last : ℕ) × (rest ≡ within ++ last ∷ []) × NoFrame within)
 EndsAs WriteFault read left frames rest answered = length read ≤ input_limit
 EndsAs (Stopped Memory) read left frames rest answered = ⊤
+EndsAs (Stopped Journal) read left frames rest answered = answered < length frames
+EndsAs (Stopped Broken) read left frames rest answered = ⊥
 -- a script asks for no moment
 EndsAs ClockFault read left frames rest answered = ⊥
 
 -- The account of a run over a script: what it read from the source, what it wrote to the sink, and the journal that it left.
-pub record ScriptRun (config : Config) (before after : List Entry) (left left' taken taken' : Option (List ℕ)) (end : Served) : Type 0 where
+pub record ScriptRun (config : Config) (before : List Entry) (old new : Standing) (left left' taken taken' : Option (List ℕ)) (end : Served) : Type 0 where
   pub read : List ℕ
   pub written : List ℕ
   pub source : Consumes left left' read
@@ -45,10 +50,13 @@ pub record ScriptRun (config : Config) (before after : List Entry) (left left' t
   pub answered : ℕ
   pub within : answered ≤ length frames
   pub output : OutputIs (reply_frames (replies_of (answer config) before frames)) answered written
-  -- the journal has the entries of the requests answered whole, or of one more; a reply is begun only behind its entry
+  -- the journal has the entries of the requests answered whole, or of one more, which is known to be there unless the disk failed; a reply is
+  -- begun only behind its entry
   pub recorded : ℕ
   -- a reply is cut short by a write fault alone
   pub cut : end ≢ WriteFault → output.part ≡ []
-  pub begun : ((recorded ≡ answered) × (output.part ≡ [])) ⊎ (recorded ≡ answered + 1)
-  pub journal : after ≡ entries_after (answer config) before (take recorded frames)
+  pub begun : ((recorded ≡ answered) × (output.part ≡ [])) ⊎ ((recorded ≡ answered + 1) × (end ≢ Stopped Journal))
+  pub journal : LeavesService end config (entries_behind (answer config) before frames recorded) (entries_behind (answer config) before frames (recorded + 1)) new
+  -- a crash at any moment of the run leaves the journal behind some of the frames
+  pub any_moment : Leaves old.journal.told new.journal.told (StandsForFront (answer config) before frames)
   pub ends : EndsAs end read left' frames rest answered

@@ -1,15 +1,18 @@
-ghost use Rattle.std.specs.Prelude.{◌≡◌, ◌≤◌, ◌⊎◌, List, IfOk, IfErr, OnOk, OnErr};
+ghost use Rattle.std.specs.Prelude.{◌≡◌, ◌≤◌, ◌⊎◌, List, IfOk, IfErr, OnOk, OnErr, true};
 ghost use Rattle.wif_base.specs.Causes.{Rose};
 ghost use Rattle.sts_core.specs.Machine.{with_entry};
 ghost use Rattle.service_config.specs.declared.config.Config.{Config};
 ghost use Rattle.links.specs.declared.entry.Entry.{Entry};
-ghost use Rattle.sts_core.specs.State.{Stands};
+ghost use Rattle.sts_core.specs.State.{Causes, Stands, StandsForEither, Stays};
+ghost use Rattle.sts_core.specs.declared.stop.Stop.{Stop};
+ghost use Rattle.wif_base.specs.Disk.{Leaves};
 ghost use Rattle.sts_serve.specs.Frames.{answer, reply_text};
-ghost use Rattle.sts_serve.specs.Answered.{Answers};
+ghost use Rattle.sts_serve.specs.Answered.{Answers, LeftBy};
 
 use crate::{Frame, Served};
 use std::alloc::{AllocError, Global};
-use sts_core::{Stop, Sts, not_found};
+use sts_core::{Stop, Sts};
+use sts_replies::not_found;
 use wif_base::{Disk, Failed, Reply, Request, Sink, route_of, write_text};
 
 /// Answers a frame, and writes the reply.
@@ -21,14 +24,18 @@ pub(crate) fn answer_frame<O: Sink, D: Disk>(
 ) -> Result<(), Served>
     requires { frame.moment ≤ 200_000_000_000 }
     ensures answers { (config : Config) (journal : List Entry) → Stands sts.old config journal
-        → (after : List Entry) × Stands sts.new config after
+        → (after : List Entry) × LeftBy config after (with_entry journal (answer config journal frame).entry) sts.new result
         × Answers (O.taken output.old) (O.taken output.new) (reply_text (answer config journal frame).reply) journal
         (with_entry journal (answer config journal frame).entry) after result }
-    ensures disk { sts.new.disk ≡ sts.old.disk }
-    ensures cause { result ≡ Err Served.WriteFault → Rose (O.faults output.old) (O.faults output.new) }
-    ensures ends { IfErr result (λ end. (end ≡ Served.WriteFault) ⊎ (end ≡ Served.Stopped Stop.Memory)) }
-    ensures count { O.faults output.old ≤ O.faults output.new }
-    ensures same { O.lender output.new ≡ O.lender output.old }
+    ensures any_moment { (config : Config) (journal : List Entry) → Stands sts.old config journal
+        → Leaves sts.old.journal.told sts.new.journal.told (StandsForEither journal (with_entry journal (answer config journal frame).entry)) }
+    ensures write_fault { result ≡ Err Served.WriteFault → Rose (O.faults output.old) (O.faults output.new) }
+    ensures disk_fault { result ≡ Err (Served.Stopped Stop.Journal) → Rose sts.old.journal.faults sts.new.journal.faults }
+    ensures broken { result ≡ Err (Served.Stopped Stop.Broken) → sts.old.journal.broken ≡ true }
+    ensures whole { OnOk result (sts.new.journal.broken ≡ sts.old.journal.broken) }
+    ensures ends { IfErr result (λ end. (end ≡ Served.WriteFault) ⊎ ((stop : Stop) × (end ≡ Served.Stopped stop))) }
+    ensures count { (O.faults output.old ≤ O.faults output.new) × (sts.old.journal.faults ≤ sts.new.journal.faults) }
+    ensures same { (O.lender output.new ≡ O.lender output.old) × (sts.new.journal.lender ≡ sts.old.journal.lender) }
 {
     let reply = match reply_to(alloc, sts, frame) {
         Ok(reply) => reply,
@@ -55,9 +62,13 @@ fn reply_to<D: Disk>(alloc: Global, sts: &mut Sts<D>, frame: Frame) -> Result<Re
         → IfOk result (λ reply. reply ≡ (answer config journal frame).reply) }
     ensures stands { (config : Config) (journal : List Entry) → Stands sts.old config journal
         → OnOk result (Stands sts.new config (with_entry journal (answer config journal frame).entry)) }
-    ensures stays { (config : Config) (journal : List Entry) → Stands sts.old config journal → OnErr result (Stands sts.new config journal) }
-    ensures disk { sts.new.disk ≡ sts.old.disk }
-    ensures memory { IfErr result (λ stop. stop ≡ Stop.Memory) }
+    ensures any_moment { (config : Config) (journal : List Entry) → Stands sts.old config journal
+        → Leaves sts.old.journal.told sts.new.journal.told (StandsForEither journal (with_entry journal (answer config journal frame).entry)) }
+    ensures stays { IfErr result (λ stop. Stays stop sts.old sts.new) }
+    ensures cause { IfErr result (λ stop. Causes stop sts.old.journal sts.new.journal) }
+    ensures whole { OnOk result (sts.new.journal.broken ≡ sts.old.journal.broken) }
+    ensures count { sts.old.journal.faults ≤ sts.new.journal.faults }
+    ensures same { sts.new.journal.lender ≡ sts.old.journal.lender }
 {
     match route_of(alloc, frame.path.as_str())? {
         Some(route) => {

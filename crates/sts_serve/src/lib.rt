@@ -11,7 +11,10 @@ mod script;
 mod served;
 
 pub use frame::{Found, Frame};
-pub use laws::{one_script, output_fixes_the_answered};
+pub use laws::{
+    a_crash_keeps_what_was_acknowledged, each_journal_of_a_run_is_lawful, one_script,
+    output_fixes_the_answered, what_was_acknowledged_stands_in_each_later_run,
+};
 pub use read::read_frame;
 pub use script::run_script;
 pub use served::Served;

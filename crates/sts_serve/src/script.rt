@@ -1,4 +1,4 @@
-ghost use Rattle.std.specs.Prelude.{◌≡◌, ◌≢◌, ◌≤◌, ◌+◌, ◌-◌, ◌*◌, List, length, []};
+ghost use Rattle.std.specs.Prelude.{◌≡◌, ◌≢◌, ◌≤◌, ◌+◌, ◌-◌, ◌*◌, List, length, [], true};
 ghost use Rattle.wif_base.specs.Causes.{Rose};
 ghost use Rattle.service_config.specs.declared.config.Config.{Config};
 ghost use Rattle.links.specs.declared.entry.Entry.{Entry};
@@ -19,19 +19,21 @@ pub fn run_script<I: Source, O: Sink, D: Disk>(
     output: &mut O,
 ) -> Served
     ensures run { (config : Config) (journal : List Entry) → Stands sts.old config journal
-        → (after : List Entry) × Stands sts.new config after
-        × ScriptRun config journal after (I.left input.old) (I.left input.new) (O.taken output.old) (O.taken output.new) result }
-    ensures disk { sts.new.disk ≡ sts.old.disk }
+        → ScriptRun config journal sts.old sts.new (I.left input.old) (I.left input.new) (O.taken output.old) (O.taken output.new) result }
 
     // The causes of the faults.
     ensures read_fault { result ≡ Served.ReadFault → Rose (I.faults input.old) (I.faults input.new) }
     ensures write_fault { result ≡ Served.WriteFault → Rose (O.faults output.old) (O.faults output.new) }
+    ensures disk_fault { result ≡ Served.Stopped Stop.Journal → Rose sts.old.journal.faults sts.new.journal.faults }
+    ensures broken { result ≡ Served.Stopped Stop.Broken → sts.old.journal.broken ≡ true }
     ensures no_clock_fault { result ≢ Served.ClockFault }
 
     ensures input_count { I.faults input.old ≤ I.faults input.new }
     ensures output_count { O.faults output.old ≤ O.faults output.new }
     ensures same_input { I.lender input.new ≡ I.lender input.old }
     ensures same_output { O.lender output.new ≡ O.lender output.old }
+    ensures disk_count { sts.old.journal.faults ≤ sts.new.journal.faults }
+    ensures same_disk { sts.new.journal.lender ≡ sts.old.journal.lender }
 {
     let mut carry = Carry::new(alloc);
     let mut used = 0;

@@ -1,2 +1,3 @@
-mod Outcome
 mod LineStatus
+mod NotOpening
+mod Outcome

@@ -1,2 +1,5 @@
 pub mod Command
+pub mod Emptied
+pub mod Lines
+pub mod Opened
 pub mod Status

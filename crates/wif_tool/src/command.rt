@@ -4,6 +4,8 @@ ghost use Rattle.wif_tool.specs.Command.{command, texts};
 /// What the words of a command line ask for.
 #[derive(Clone, Copy, Debug, PartialEq, Eq)]
 pub enum Command {
+    /// `init JOURNAL`: the empty journal.
+    Init,
     /// `cel`: the expressions in lines, from standard input to standard output.
     Cel,
     /// `script CONFIG JOURNAL`: the requests of a script, from standard input to standard output.
@@ -18,6 +20,13 @@ pub fn command_of(words: &[String]) -> Option<Command>
         [name] => {
             if name.as_str() == "cel" {
                 Some(Command::Cel)
+            } else {
+                None
+            }
+        }
+        [name, _] => {
+            if name.as_str() == "init" {
+                Some(Command::Init)
             } else {
                 None
             }

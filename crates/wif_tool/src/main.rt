@@ -3,6 +3,8 @@
 
 mod cel;
 mod command;
+mod fault_line;
+mod init;
 mod run;
 mod script;
 mod setup;
@@ -10,6 +12,7 @@ mod setup;
 mod tests;
 
 pub use command::Command;
+use command::command_of;
 pub use run::sts_run;
 use std::process::ExitCode;
 use std::{env, io};
@@ -32,11 +35,19 @@ fn word_at(words: &[String], index: usize) -> &str {
     }
 }
 
+// The file of the journal: made for `init`, and opened where it is there for `script`.
+fn disk_of(rt: &HostRuntime, words: &[String]) -> FileDisk {
+    match command_of(words) {
+        Some(Command::Init) => FileDisk::create(rt, word_at(words, 1)),
+        Some(Command::Script) | Some(Command::Cel) | None => FileDisk::open(rt, word_at(words, 2)),
+    }
+}
+
 fn status_of(rt: &HostRuntime, words: &[String]) -> u8 {
     let mut config = FileSource::open(rt, word_at(words, 1));
     let mut input = StdinSource::new(rt);
     let mut output = StdoutSink::new(io::writer(rt));
-    let mut disk = FileDisk::open(rt, word_at(words, 2));
+    let mut disk = disk_of(rt, words);
     let mut clock = SystemClock::new(rt);
     sts_run(
         rt.alloc(),

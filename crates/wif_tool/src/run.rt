@@ -1,25 +1,31 @@
 ghost use Rattle.std.specs.Prelude.{◌≡◌, ◌≢◌, ◌≤◌, ◌⊎◌, ◌↔◌, ◌+◌, [], length, ℕ, List, None, Some};
 ghost use Rattle.std.specs.Io.KnownBytes.{Consumes};
+ghost use Rattle.grant_journal.specs.Emptying.{IsEmptyOrNone};
 ghost use Rattle.wif_base.specs.Causes.{Rose};
 ghost use Rattle.wif_base.specs.Carried.{input_limit};
+ghost use Rattle.wif_base.specs.Disk.{Leaves, LeavesNow, told_synced};
 ghost use Rattle.links.specs.declared.entry.Entry.{Entry};
+ghost use Rattle.service_journal.specs.declared.opening.OpenFault.{OpenFault};
 ghost use Rattle.sts_serve.specs.Frames.{ScriptSpells};
 ghost use Rattle.sts_serve.specs.declared.frame.Frame.{Frame};
 ghost use Rattle.wif_tool.specs.Command.{command, texts};
-ghost use Rattle.wif_tool.specs.Status.{Configured, NoConfiguration, NotConfigured, StopsBefore, HasForms};
+ghost use Rattle.wif_tool.specs.Emptied.{InitOutcome};
+ghost use Rattle.wif_tool.specs.Opened.{Holds, IsRefused, NotOpened};
+ghost use Rattle.wif_tool.specs.Status.{Configured, NoConfiguration, NotConfigured, StopsBefore, HasForms, HasNoJournal};
 ghost use Rattle.wif_tool.specs.Status.{ScriptOutcome, AllAnswered, AnsweredUpTo, CelOutcome, HasLines, HasLongLine};
 
 use crate::Command;
 use crate::cel::cel_status;
 use crate::command::command_of;
+use crate::init::init_status;
 use crate::script::script_status;
 use std::alloc::Global;
 use wif_base::{Clock, Disk, Sink, Source};
 
 /// Does all that the program `sts` does, and answers its status: 0 where the input was read to its end and
 /// answered, 1 at a configuration that is none, 2 at words that are no command, 3 where reading failed, 4 where
-/// writing failed, 7 for want of memory, 8 at what is no frame or a line that is too long, 10 at more than 2^30 bytes
-/// of input.
+/// writing failed, 5 where the disk failed, 6 where it holds no journal of the configuration, or for `init` something, 7 for want of
+/// memory, 8 at what is no frame or a line that is too long, 10 at more than 2^30 bytes of input.
 pub fn sts_run<G: Source, I: Source, O: Sink, D: Disk, C: Clock>(
     alloc: Global,
     words: &[String],
@@ -29,29 +35,52 @@ pub fn sts_run<G: Source, I: Source, O: Sink, D: Disk, C: Clock>(
     disk: &mut D,
     clock: &mut C,
 ) -> u8
-    // What a reader asks first of `script`: at 0 all was answered, and at 8 all that stands before what is no frame.
+    // What a reader asks first of `script`: at 0 all was answered, and at 8 all that stands before what is no frame; and a crash leaves the
+    // journal of that.
     ensures done { command (texts words.now) ≡ Some Command.Script → result ≡ 0 → (setup : _) × Configured (G.left config.old) (G.left config.new) setup
-        × AllAnswered setup [] (I.left input.old) (I.left input.new) (O.taken output.old) (O.taken output.new) }
+        × (before : List Entry) × Holds setup before (D.told disk.old)
+        × AllAnswered setup before (I.left input.old) (I.left input.new) (O.taken output.old) (O.taken output.new) (D.told disk.new) }
     ensures malformed { command (texts words.now) ≡ Some Command.Script → result ≡ 8 → (setup : _) × Configured (G.left config.old) (G.left config.new) setup
-        × AnsweredUpTo setup [] (I.left input.old) (I.left input.new) (O.taken output.old) (O.taken output.new) }
+        × (before : List Entry) × Holds setup before (D.told disk.old)
+        × AnsweredUpTo setup before (I.left input.old) (I.left input.new) (O.taken output.old) (O.taken output.new) (D.told disk.new) }
     ensures malformed_only { command (texts words.now) ≡ Some Command.Script
         → (bytes : List ℕ) (frames : List Frame) (rest : List ℕ) → I.left input.old ≡ Some bytes → ScriptSpells bytes frames rest → rest ≢ [] → result ≢ 0 }
 
-    // With words, configuration and input of their forms and no fault all is answered, unless memory runs out.
-    ensures complete { HasForms (texts words.now) (G.left config.old) (I.left input.old)
+    // With words, configuration, journal and input of their forms and no fault all is answered, unless memory runs out.
+    ensures complete { HasForms (texts words.now) (G.left config.old) (I.left input.old) (D.told disk.old)
         → (Rose (G.faults config.old) (G.faults config.new) → ⊥)
         → (Rose (I.faults input.old) (I.faults input.new) → ⊥)
         → (Rose (O.faults output.old) (O.faults output.new) → ⊥)
+        → (Rose (D.faults disk.old) (D.faults disk.new) → ⊥)
         → (result ≡ 0) ⊎ (result ≡ 7) }
 
-    // The output law and the status law of each command: what was read, written and recorded at each status.
+    // At 6 the file is refused, and a line tells the place and the rule; what holds no journal of the configuration is refused.
+    ensures refused { command (texts words.now) ≡ Some Command.Script → result ≡ 6 → (setup : _) × Configured (G.left config.old) (G.left config.new) setup
+        × IsRefused setup (D.told disk.old) (D.told disk.new) (O.taken output.old) (O.taken output.new) × (input.new ≡ input.old) }
+    ensures refuses { HasNoJournal (texts words.now) (G.left config.old) (D.told disk.old)
+        → (Rose (G.faults config.old) (G.faults config.new) → ⊥)
+        → (Rose (I.faults input.old) (I.faults input.new) → ⊥)
+        → (Rose (D.faults disk.old) (D.faults disk.new) → ⊥)
+        → (result ≡ 6) ⊎ ((result ≡ 4) ⊎ (result ≡ 7)) }
+
+    // The output law and the status law of each command: what was read, written and recorded at each status, and what a crash leaves.
     ensures script { command (texts words.now) ≡ Some Command.Script
-        → (StopsBefore result × (input.new ≡ input.old) × (output.new ≡ output.old))
+        → (StopsBefore result × (input.new ≡ input.old) × (output.new ≡ output.old) × (disk.new ≡ disk.old))
         ⊎ ((setup : _) × Configured (G.left config.old) (G.left config.new) setup
-        × (after : List Entry) × ScriptOutcome setup [] after (I.left input.old) (I.left input.new) (O.taken output.old) (O.taken output.new) result) }
+        × (((fault : OpenFault) × NotOpened fault setup (D.told disk.old) (D.told disk.new) (O.taken output.old) (O.taken output.new) result × (input.new ≡ input.old))
+        ⊎ ((before : List Entry) × Holds setup before (D.told disk.old)
+        × ScriptOutcome setup before (I.left input.old) (I.left input.new) (O.taken output.old) (O.taken output.new)
+        (told_synced (D.told disk.old)) (D.told disk.new) result))) }
+
+    ensures init { command (texts words.now) ≡ Some Command.Init
+        → InitOutcome (D.told disk.old) (D.told disk.new) (D.faults disk.old) (D.faults disk.new) result
+        × (config.new ≡ config.old) × (input.new ≡ input.old) × (output.new ≡ output.old) }
+    ensures init_any_moment { command (texts words.now) ≡ Some Command.Init → LeavesNow (D.told disk.old) (λ image. image ≡ [])
+        → Leaves (D.told disk.old) (D.told disk.new) IsEmptyOrNone }
 
     ensures cel { command (texts words.now) ≡ Some Command.Cel
-        → CelOutcome (I.left input.old) (I.left input.new) (O.taken output.old) (O.taken output.new) result × (config.new ≡ config.old) }
+        → CelOutcome (I.left input.old) (I.left input.new) (O.taken output.old) (O.taken output.new) result
+        × (config.new ≡ config.old) × (disk.new ≡ disk.old) }
 
     // Where each line has at most 65,536 bytes and nothing fails all are answered, unless memory runs out; a longer
     // line is never taken for the end.
@@ -64,23 +93,22 @@ pub fn sts_run<G: Source, I: Source, O: Sink, D: Disk, C: Clock>(
 
     // The causes of the other statuses.
     ensures words { (result ≡ 2) ↔ (command (texts words.now) ≡ None) }
-    ensures no_command { result ≡ 2 → (config.new ≡ config.old) × (input.new ≡ input.old) × (output.new ≡ output.old) }
-    ensures configuration { result ≡ 1 → NotConfigured (G.left config.old) (G.left config.new) }
+    ensures no_command { result ≡ 2 → (config.new ≡ config.old) × (input.new ≡ input.old) × (output.new ≡ output.old) × (disk.new ≡ disk.old) }
+    ensures configuration { result ≡ 1 → NotConfigured (G.left config.old) (G.left config.new) × (disk.new ≡ disk.old) }
     ensures configuration_only { (bytes : List ℕ) → G.left config.old ≡ Some bytes → NoConfiguration bytes
-        → command (texts words.now) ≡ Some Command.Script → StopsBefore result }
+        → command (texts words.now) ≡ Some Command.Script → StopsBefore result × (disk.new ≡ disk.old) }
     ensures limit { result ≡ 10 → (read : List ℕ) × Consumes (I.left input.old) (I.left input.new) read × (length read ≡ input_limit + 1) }
     ensures read_fault { result ≡ 3 → Rose (G.faults config.old) (G.faults config.new) ⊎ Rose (I.faults input.old) (I.faults input.new) }
     ensures write_fault { result ≡ 4 → Rose (O.faults output.old) (O.faults output.new) }
     ensures disk_fault { result ≡ 5 → Rose (D.faults disk.old) (D.faults disk.new) }
-    ensures no_journal { result ≢ 6 }
     ensures clock_fault { result ≡ 9 → Rose (C.faults clock.old) (C.faults clock.new) }
     ensures no_other { result ≤ 10 }
 
-    // The disk and the clock end as they began.
-    ensures disk { disk.new ≡ disk.old }
+    // The clock ends as it began.
     ensures clock { clock.new ≡ clock.old }
 {
     match command_of(words) {
+        Some(Command::Init) => init_status(disk),
         Some(Command::Script) => script_status(alloc, config, input, output, disk),
         Some(Command::Cel) => cel_status(alloc, input, output),
         None => 2,

@@ -1,17 +1,23 @@
-ghost use Rattle.std.specs.Prelude.{◌≡◌, ◌≢◌, ◌≤◌, ◌⊎◌, [], ℕ, List, Some};
+ghost use Rattle.std.specs.Prelude.{◌≡◌, ◌≢◌, ◌≤◌, ◌⊎◌, ◌+◌, ◌*◌, ℕ, List, Option, Some, IfSome, length};
 ghost use Rattle.wif_base.specs.Causes.{Rose};
+ghost use Rattle.wif_base.specs.Disk.{Told, told_synced};
 ghost use Rattle.links.specs.declared.entry.Entry.{Entry};
 ghost use Rattle.service_config.specs.declared.config.Config.{Config};
+ghost use Rattle.service_journal.specs.declared.opening.OpenFault.{OpenFault as Unopened};
+ghost use Rattle.sts_core.specs.Opened.{FindsService};
 ghost use Rattle.sts_core.specs.State.{IsSetUp};
-ghost use Rattle.wif_tool.specs.Status.{Configured, NoConfiguration, NotConfigured, StopsBefore, ScriptOutcome, LineDue, malformed_line};
+ghost use Rattle.wif_tool.specs.Opened.{Holds, NotOpened};
+ghost use Rattle.wif_tool.specs.Status.{Closes, Configured, NoConfiguration, NotConfigured, StopsBefore, ScriptOutcome};
 
+use crate::fault_line::{write_malformed_line, write_refusal_line};
 use crate::setup::{SetupEnd, read_setup};
+use service_journal::OpenFault;
 use std::alloc::Global;
-use sts_core::{Setup, Sts};
+use sts_core::{Opening, Setup, Stop, Sts, open_on};
 use sts_serve::{Served, run_script};
-use wif_base::{Disk, Failed, Sink, Source, write_text};
+use wif_base::{Disk, Sink, Source};
 
-/// A run of `script`: the configuration first, then the input. Answers the status.
+/// A run of `script`: the configuration first, then the journal, then the input. Answers the status.
 pub(crate) fn script_status<G: Source, I: Source, O: Sink, D: Disk>(
     alloc: Global,
     config: &mut G,
@@ -19,15 +25,19 @@ pub(crate) fn script_status<G: Source, I: Source, O: Sink, D: Disk>(
     output: &mut O,
     disk: &mut D,
 ) -> u8
-    ensures outcome { (StopsBefore result × (input.new ≡ input.old) × (output.new ≡ output.old))
+    ensures outcome { (StopsBefore result × (input.new ≡ input.old) × (output.new ≡ output.old) × (disk.new ≡ disk.old))
         ⊎ ((setup : _) × Configured (G.left config.old) (G.left config.new) setup
-        × (after : List Entry) × ScriptOutcome setup [] after (I.left input.old) (I.left input.new) (O.taken output.old) (O.taken output.new) result) }
-    ensures configuration { result ≡ 1 → NotConfigured (G.left config.old) (G.left config.new) }
-    ensures configuration_only { (bytes : List ℕ) → G.left config.old ≡ Some bytes → NoConfiguration bytes → StopsBefore result }
+        × (((fault : Unopened) × NotOpened fault setup (D.told disk.old) (D.told disk.new) (O.taken output.old) (O.taken output.new) result × (input.new ≡ input.old))
+        ⊎ ((before : List Entry) × Holds setup before (D.told disk.old)
+        × ScriptOutcome setup before (I.left input.old) (I.left input.new) (O.taken output.old) (O.taken output.new)
+        (told_synced (D.told disk.old)) (D.told disk.new) result))) }
+    ensures configuration { result ≡ 1 → NotConfigured (G.left config.old) (G.left config.new) × (disk.new ≡ disk.old) }
+    ensures configuration_only { (bytes : List ℕ) → G.left config.old ≡ Some bytes → NoConfiguration bytes
+        → StopsBefore result × (disk.new ≡ disk.old) }
     ensures read_fault { result ≡ 3 → Rose (G.faults config.old) (G.faults config.new) ⊎ Rose (I.faults input.old) (I.faults input.new) }
     ensures write_fault { result ≡ 4 → Rose (O.faults output.old) (O.faults output.new) }
-    ensures no_other { (result ≢ 2) × (result ≢ 5) × (result ≢ 6) × (result ≢ 9) × (result ≤ 10) }
-    ensures disk { disk.new ≡ disk.old }
+    ensures disk_fault { result ≡ 5 → Rose (D.faults disk.old) (D.faults disk.new) }
+    ensures no_other { (result ≢ 2) × (result ≢ 9) × (result ≤ 10) }
 {
     let setup = match read_setup(alloc, config) {
         Ok(setup) => setup,
@@ -35,49 +45,81 @@ pub(crate) fn script_status<G: Source, I: Source, O: Sink, D: Disk>(
         Err(SetupEnd::Form) => return 1,
         Err(SetupEnd::Memory) => return 7,
     };
-    run_over(alloc, setup, input, output, disk)
+    serve_journal(alloc, setup, input, output, disk)
 }
 
-// The run over a script, and its closing line.
-fn run_over<I: Source, O: Sink, D: Disk>(
+// Opens the journal on the disk, and runs over it.
+fn serve_journal<I: Source, O: Sink, D: Disk>(
     alloc: Global,
     setup: Setup,
     input: &mut I,
     output: &mut O,
     disk: &mut D,
 ) -> u8
+    requires { (config : Config) × IsSetUp setup config }
     ensures outcome { (config : Config) → IsSetUp setup config
-        → (after : List Entry) × ScriptOutcome config [] after (I.left input.old) (I.left input.new) (O.taken output.old) (O.taken output.new) result }
+        → ((fault : Unopened) × NotOpened fault config (D.told disk.old) (D.told disk.new) (O.taken output.old) (O.taken output.new) result × (input.new ≡ input.old))
+        ⊎ ((before : List Entry) × Holds config before (D.told disk.old)
+        × ScriptOutcome config before (I.left input.old) (I.left input.new) (O.taken output.old) (O.taken output.new)
+        (told_synced (D.told disk.old)) (D.told disk.new) result) }
     ensures read_fault { result ≡ 3 → Rose (I.faults input.old) (I.faults input.new) }
     ensures write_fault { result ≡ 4 → Rose (O.faults output.old) (O.faults output.new) }
-    ensures clock_fault { result ≢ 9 }
-    ensures disk { disk.new ≡ disk.old }
+    ensures disk_fault { result ≡ 5 → Rose (D.faults disk.old) (D.faults disk.new) }
+    ensures no_other { (result ≢ 1) × (result ≢ 2) × (result ≢ 9) × (result ≤ 10) }
 {
-    let mut sts = Sts::resume(&mut *disk, setup);
+    match open_on(alloc, disk, setup) {
+        Ok(opening) => run_over(alloc, opening, input, output, disk),
+        Err(OpenFault::Fault) => 5,
+        Err(OpenFault::Refused { at, rule }) => write_refusal_line(alloc, output, at, rule),
+        Err(OpenFault::Memory) => 7,
+    }
+}
+
+// The run over a script, and its closing line.
+fn run_over<I: Source, O: Sink, D: Disk>(
+    alloc: Global,
+    opening: Opening,
+    input: &mut I,
+    output: &mut O,
+    disk: &mut D,
+) -> u8
+    requires inside { IfSome (D.told disk.old) (λ told. opening.journal.end.len ≤ length told.now.bytes) }
+    requires few { 9 + 5 * opening.journal.state.content.count ≤ opening.journal.end.len }
+    ensures outcome { (config : Config) (held : Option Told) → FindsService config held (D.told disk.old) opening
+        → (before : List Entry) × Holds config before held
+        × ScriptOutcome config before (I.left input.old) (I.left input.new) (O.taken output.old) (O.taken output.new) (D.told disk.old) (D.told disk.new) result }
+    ensures read_fault { result ≡ 3 → Rose (I.faults input.old) (I.faults input.new) }
+    ensures write_fault { result ≡ 4 → Rose (O.faults output.old) (O.faults output.new) }
+    ensures disk_fault { result ≡ 5 → Rose (D.faults disk.old) (D.faults disk.new) }
+    ensures no_other { (result ≢ 1) × (result ≢ 2) × (result ≢ 6) × (result ≢ 9) × (result ≤ 10) }
+    ensures count { D.faults disk.old ≤ D.faults disk.new }
+{
+    let mut sts = Sts::resume(&mut *disk, opening);
     let end = run_script(alloc, &mut sts, input, output);
     // A disk that is lent is known again only once it is given back.
     let _disk = sts.close();
+    close_output(alloc, end, output)
+}
+
+// The status of an end, and the line that tells a place.
+fn close_output<O: Sink>(alloc: Global, end: Served, output: &mut O) -> u8
+    ensures closes { Closes end (O.taken output.old) (O.taken output.new) result }
+    ensures read_fault { result ≡ 3 → end ≡ Served.ReadFault }
+    ensures write_fault { result ≡ 4 → (end ≡ Served.WriteFault) ⊎ Rose (O.faults output.old) (O.faults output.new) }
+    ensures disk_fault { result ≡ 5 → (end ≡ Served.Stopped Stop.Journal) ⊎ (end ≡ Served.Stopped Stop.Broken) }
+    ensures clock_fault { result ≡ 9 → end ≡ Served.ClockFault }
+    ensures no_other { (result ≢ 1) × (result ≢ 2) × (result ≢ 6) × (result ≤ 10) }
+    ensures count { O.faults output.old ≤ O.faults output.new }
+{
     match end {
         Served::Done => 0,
         Served::ReadFault => 3,
         Served::WriteFault => 4,
         Served::ClockFault => 9,
-        Served::Malformed { offset } => write_fault_line(alloc, output, offset),
+        Served::Malformed { offset } => write_malformed_line(alloc, output, offset),
         Served::InputLimit => 10,
-        Served::Stopped(_) => 7,
-    }
-}
-
-fn write_fault_line<O: Sink>(alloc: Global, output: &mut O, offset: u64) -> u8
-    ensures line { LineDue (malformed_line offset) 8 (O.taken output.old) (O.taken output.new) result }
-    ensures cause { result ≡ 4 → Rose (O.faults output.old) (O.faults output.new) }
-    ensures count { O.faults output.old ≤ O.faults output.new }
-{
-    let Ok(line) = format!(in alloc; "fault 8 at {offset}\n") else {
-        return 7;
-    };
-    match write_text(output, line.as_bytes()) {
-        Ok(()) => 8,
-        Err(Failed) => 4,
+        Served::Stopped(Stop::Memory) => 7,
+        Served::Stopped(Stop::Journal) => 5,
+        Served::Stopped(Stop::Broken) => 5,
     }
 }

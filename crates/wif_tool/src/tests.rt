@@ -6,6 +6,8 @@ use wif_base::{DripSource, MemClock, MemDisk, MemSink, MemSource, Source};
 const CONFIG: &[u8] =
     br#"{"issuer":"https://sts.example","key":"U1NTU1NTU1NTU1NTU1NTU1NTU1NTU1NTU1NTU1NTU1M","admin":"admin-secret-000001","gate":"gate-secret-0000001"}"#;
 
+const JOURNAL: &[u8] = b"WIFJ0001\0";
+
 const NOT_FOUND: &str = "404 46\n{\"error\":\"not_found\",\"error_description\":\"H4\"}\n";
 
 const INACTIVE: &str = "200 16\n{\"active\":false}\n";
@@ -18,18 +20,20 @@ fn words_of(alloc: Global, line: &str) -> Result<Vec<String>, AllocError> {
     Ok(words)
 }
 
-// Which calls of the configuration, the input and the output fail.
+// Which calls of the configuration, the input, the output and the disk fail.
 #[derive(Clone, Copy)]
 struct Failing {
     config: u64,
     input: u64,
     output: u64,
+    disk: u64,
 }
 
 const NEVER: Failing = Failing {
     config: 999,
     input: 999,
     output: 999,
+    disk: 999,
 };
 
 #[derive(Drop)]
@@ -51,10 +55,21 @@ fn run_with(
     input: &mut impl Source,
     failing: Failing,
 ) -> Result<Ran, Fail> {
+    run_over(alloc, line, config, JOURNAL, input, failing)
+}
+
+fn run_over(
+    alloc: Global,
+    line: &str,
+    config: &[u8],
+    journal: &[u8],
+    input: &mut impl Source,
+    failing: Failing,
+) -> Result<Ran, Fail> {
     let words = words_of(alloc, line)?;
     let mut config = MemSource::new(config.to_vec(alloc)?, vec![in alloc; failing.config]?);
     let mut output = sink_of(alloc, failing.output)?;
-    let mut disk = MemDisk::new(alloc, b"", 0, 0, Vec::new(alloc))?;
+    let mut disk = MemDisk::new(alloc, journal, 4096, 64, vec![in alloc; failing.disk]?)?;
     let mut clock = MemClock::new(Vec::new(alloc), Vec::new(alloc));
     let status = sts_run(
         alloc,
@@ -149,8 +164,10 @@ fn each_call_of_the_outside_may_fail(rt: HostRuntime) -> Result<(), Fail> {
 #[test]
 fn words_and_configuration_are_looked_at_first(rt: HostRuntime) -> Result<(), Fail> {
     let alloc = rt.alloc();
-    let cases: [(&str, &[u8], u8); 13] = [
+    let cases: [(&str, &[u8], u8); 15] = [
         ("script c j", CONFIG, 0),
+        ("init", CONFIG, 2),
+        ("Init j", CONFIG, 2),
         ("cel", CONFIG, 0),
         ("cel", b"", 0),
         ("cel c", CONFIG, 2),
@@ -168,6 +185,44 @@ fn words_and_configuration_are_looked_at_first(rt: HostRuntime) -> Result<(), Fa
         let mut input = MemSource::new(Vec::new(alloc), Vec::new(alloc));
         let ran = run_with(alloc, line, config, &mut input, NEVER)?;
         assert_eq!(rt; ran.status, status, "{line}");
+    }
+    Ok(())
+}
+
+#[test]
+fn journals_are_made_opened_or_refused(rt: HostRuntime) -> Result<(), Fail> {
+    let alloc = rt.alloc();
+    let disk = Failing { disk: 0, ..NEVER };
+    let output = Failing { output: 0, ..NEVER };
+    let cases: [(&str, &[u8], Failing, u8, &str); 10] = [
+        ("init j", b"", NEVER, 0, ""),
+        ("init j", b"x", NEVER, 6, ""),
+        ("init j", b"", disk, 5, ""),
+        ("script c j", JOURNAL, NEVER, 0, NOT_FOUND),
+        ("script c j", b"WIFJ0001\x02x", NEVER, 0, NOT_FOUND),
+        ("script c j", JOURNAL, disk, 5, ""),
+        ("script c j", b"", NEVER, 6, "fault 6 at 0 rule J1\n"),
+        (
+            "script c j",
+            b"WIFJ0001",
+            NEVER,
+            6,
+            "fault 6 at 8 rule J2\n",
+        ),
+        (
+            "script c j",
+            b"WIFJ0001\x01\0\0\0\x01x\0",
+            NEVER,
+            6,
+            "fault 6 at 8 rule J3\n",
+        ),
+        ("script c j", b"", output, 4, ""),
+    ];
+    for (line, journal, failing, status, wanted) in cases {
+        let mut input = MemSource::new(b"/v1/none - 0 0\n\n".to_vec(alloc)?, Vec::new(alloc));
+        let ran = run_over(alloc, line, CONFIG, journal, &mut input, failing)?;
+        assert_eq!(rt; ran.status, status, "{line}");
+        assert_eq!(rt; ran.output.as_str(), wanted, "{line}");
     }
     Ok(())
 }

@@ -5,7 +5,7 @@ use Rattle.base_types.specs.Steps.{needed}
 use Rattle.links.specs.Licence.{knows_word}
 use Rattle.serde_json.specs.View.{view}
 use Rattle.sts_core.specs.Generated.{scope_of}
-use Rattle.sts_core.specs.declared.generate_rule.GenerateRule.TheVariants.{I5}
+use Rattle.sts_replies.specs.declared.generate_rule.GenerateRule.TheVariants.{I5}
 use Rattle.sts_core.proofs.FormedImpersonations.{not_empty, scope_said}
 use Rattle.sts_core.proofs.generating.scope_in.Goals as goal
 
