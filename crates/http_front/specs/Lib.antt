@@ -1,0 +1,9 @@
+pub mod Fields
+pub mod Halves
+pub mod Heads
+pub mod Messages
+pub mod Reading
+pub mod Replies
+pub mod Rules
+pub mod Rulings
+pub mod Streams

@@ -1,0 +1,4 @@
+pub mod Asked
+pub mod Connection
+pub mod Listening
+pub mod Refusing
