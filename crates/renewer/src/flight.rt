@@ -111,6 +111,13 @@ impl<L: Link> Flight<L> {
         self.history.as_slice()
     }
 
+    /// How long before its end a token is no longer leased, in seconds.
+    pub fn margin(&self) -> u64
+        ensures { result ≡ self.now.margin }
+    {
+        self.margin
+    }
+
     /// Gives the link back. It takes no memory.
     pub fn into_link(self) -> L
         ensures { result ≡ self.link }

@@ -1,0 +1,6 @@
+pub mod Failing
+pub mod Heads
+pub mod Passing
+pub mod Serving
+pub mod Stepping
+pub mod Sums

@@ -1,0 +1,10 @@
+pub mod Asks
+pub mod Counts
+pub mod Failures
+pub mod Looks
+pub mod Passes
+pub mod Rules
+pub mod Searches
+pub mod Seats
+pub mod Turns
+pub mod Views
