@@ -7,7 +7,7 @@ python3 - "$top" "$work" <<'END'
 import json, shutil, subprocess, sys
 top, work = sys.argv[1:]
 sys.path[:0] = [top + '/tools', top + '/bench']
-from counting import instructions
+from counting import fresh, instructions
 from signing import AT, compact, decoded, frame, signed
 
 config = top + '/examples/ci/config.json'
@@ -37,7 +37,7 @@ for bounds in (0, 1, 2, 4, 8):
     with open(work + '/input', 'wb') as f:
         f.write(world + asked)
     with open(work + '/input', 'rb') as source:
-        if b'"allowed":true' not in subprocess.run([work + '/sts', 'script', config, 'none'], stdin=source, stdout=subprocess.PIPE).stdout:
+        if b'"allowed":true' not in subprocess.run([work + '/sts', 'script', config, fresh(work)], stdin=source, stdout=subprocess.PIPE).stdout:
             sys.exit('a check is denied')
     if shutil.which('valgrind'):
         each = (instructions(work, config, world + asked * 200) - instructions(work, config, world)) / 200

@@ -9,14 +9,17 @@ python3 - "$top" "$work" <<'END'
 import subprocess, sys, time
 top, work = sys.argv[1:]
 config = top + '/examples/first/config.json'
-programs = {'sts': [work + '/sts', 'script', config, 'none'], 'python': ['python3', top + '/bench/yardstick.py', config]}
+sys.path[:0] = [top + '/tools', top + '/bench']
+from counting import fresh, instructions
+
+programs = {'sts': [work + '/sts', 'script', config], 'python': ['python3', top + '/bench/yardstick.py', config]}
 
 def run(program, script):
     with open(work + '/input', 'wb') as f:
         f.write(script)
     with open(work + '/input', 'rb') as source:
         start = time.monotonic()
-        replies = subprocess.run(programs[program], stdin=source, stdout=subprocess.PIPE, check=True).stdout
+        replies = subprocess.run(programs[program] + [fresh(work)] * (program != 'python'), stdin=source, stdout=subprocess.PIPE, check=True).stdout
         return time.monotonic() - start, replies
 
 with open(top + '/examples/first/script', 'rb') as f:
@@ -44,8 +47,6 @@ for links in (10, 1000, 100000):
         sys.exit('the programs differ')
 
 import json, shutil
-sys.path[:0] = [top + '/tools', top + '/bench']
-from counting import instructions
 from signing import AT, compact, frame, presented
 
 config = top + '/examples/ci/config.json'
@@ -81,12 +82,12 @@ def instructions_each(request, good):
     with open(work + '/input', 'wb') as f:
         f.write(world + request)
     with open(work + '/input', 'rb') as source:
-        if good not in subprocess.run([work + '/sts', 'script', config, 'none'], stdin=source, stdout=subprocess.PIPE).stdout:
+        if good not in subprocess.run([work + '/sts', 'script', config, fresh(work)], stdin=source, stdout=subprocess.PIPE).stdout:
             sys.exit('a request is refused')
     return (instructions(work, config, world + request * 200) - instructions(work, config, world)) / 200
 
 if shutil.which('valgrind'):
-    programs['ci'] = [work + '/sts', 'script', config, 'none']
+    programs['ci'] = [work + '/sts', 'script', config]
     text = token(run('ci', world + presented(mapped, claims, AT))[1]).decode()
     print(f"\n{'request':32} {'instructions':>14} {'times':>6} {'wanted':>7}")
     for kind, good, simple, other, wanted in [

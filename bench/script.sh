@@ -16,7 +16,7 @@ with open(work + '/input', 'wb') as f:
         f.write(frame * 1000)
 with open(work + '/input', 'rb') as source, open(work + '/output', 'wb') as sink:
     start = time.monotonic()
-    status = subprocess.run([work + '/sts', 'script', work + '/config.json', 'none'], stdin=source, stdout=sink).returncode
+    status = subprocess.run([work + '/sts', 'script', work + '/config.json', work + '/journal'], stdin=source, stdout=sink).returncode
     seconds = time.monotonic() - start
 peak = resource.getrusage(resource.RUSAGE_CHILDREN).ru_maxrss
 if status != 0:

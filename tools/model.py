@@ -5,6 +5,8 @@ It is written from the documents of the formats (docs/FORMATS.md) alone, and mak
 import re
 from urllib.parse import unquote_to_bytes
 
+import journals
+
 from boundaries import SEEN, allows, are_exact, read_boundary, read_rules, sees, written
 from chains import DEEPEST, LONGEST_LIFE, Delegate, Federated, Impersonate, Narrow, carries, is_enabled
 from expressions import EvalError, checked, holds, meaning, result, text_of, value_of
@@ -122,7 +124,8 @@ class Service:
 
     def __init__(self, config):
         self.config, self.own = config, decoded(config['key'])
-        self.pools, self.providers, self.issued, self.entries = {}, {}, {}, 0
+        self.pools, self.providers, self.issued = {}, {}, {}
+        self.texts, self.size = [], 9
         self.accounts, self.roles, self.policies, self.scopes = {}, {}, {}, {EVERY: '*'}
         if 'start' in config:
             self.pools[pool_of(config['start'])] = True
@@ -145,18 +148,41 @@ class Service:
         asked, boundary, audiences = self.asked(body)
         is_derived = asked['subject_token_type'] == ACCESS
         link = self.derived(asked, boundary, audiences, at) if is_derived else self.federated(asked, audiences, at)
-        return {'access_token': self.recorded(link, 'E25'), 'expires_in': link.exp - at, 'issued_token_type': ACCESS, 'scope': link.scope,
-                'token_type': 'Bearer'}
+        entry = self.derived_entry(asked, boundary) if is_derived else {
+            'kind': 'federated', 'provider': provider_path(audiences[0]), 'token': asked['subject_token']}
+        return {'access_token': self.recorded(link, dict(entry, at=at, scope=link.scope), 'E25', 'E26'), 'expires_in': link.exp - at,
+                'issued_token_type': ACCESS, 'scope': link.scope, 'token_type': 'Bearer'}
 
-    def recorded(self, link, code):
-        """The token of a link that is recorded, or the rule on its size that it fails."""
+    def derived_entry(self, asked, boundary):
+        """What the journal holds of a narrowing or a delegation, but for its moment and its words."""
+        if asked['actor_token']:
+            return {'kind': 'delegate', 'subject': self.number_of(asked['subject_token']), 'actor': self.number_of(asked['actor_token'])}
+        narrowing = {'kind': 'narrow', 'parent': self.number_of(asked['subject_token'])}
+        return narrowing if boundary is None else dict(narrowing, boundary=boundary)
+
+    def number_of(self, token):
+        """The number of the link whose token it is."""
+        return int(self.issued[token][1]['jti'])
+
+    def recorded(self, link, entry, long, full):
+        """The token of a link that is recorded, or the rule on its size or on that of the journal that it fails."""
         facts = self.facts(link, len(self.issued))
         token = signed(self.own, facts)
         if len(token) > 8192:
-            raise Fault(code)
+            raise Fault(long)
+        self.store(journals.text_of(entry), full)
         self.issued[token] = link, facts
-        self.entries += 1
         return token
+
+    def room_for(self, text, full):
+        """Refuses an entry whose text is too long, or for which the journal has no room."""
+        if len(text) > journals.LONGEST_TEXT or self.size + 5 + len(text) > journals.LONGEST_JOURNAL:
+            raise Fault(full)
+
+    def store(self, text, full):
+        self.room_for(text, full)
+        self.texts.append(text)
+        self.size += 5 + len(text)
 
     def federated(self, asked, audiences, at):
         """The link to a subject token from outside, or the first rule that it fails."""
@@ -208,7 +234,8 @@ class Service:
         parent, accounts = self.live_link(bearer, at, 'I7'), delegates + [account]
         self.reaches(parent, accounts, at)
         link = fits(Impersonate(at, scope, parent, accounts, lifetime), 'I10')
-        return {'accessToken': self.recorded(link, 'I11'), 'expireTime': text_of(link.exp)}
+        entry = {'kind': 'impersonate', 'accounts': accounts, 'at': at, 'lifetime': lifetime, 'parent': self.number_of(bearer), 'scope': scope}
+        return {'accessToken': self.recorded(link, entry, 'I11', 'I12'), 'expireTime': text_of(link.exp)}
 
     def wanted(self, asked):
         """The delegates' accounts, the words and the lifetime of a request for an account's token, or the first fault of its members."""
@@ -389,8 +416,7 @@ class Service:
         if command.get('kind') not in ('pool', 'account', 'role', 'scope', 'policy', 'provider'):
             raise Fault('A2')
         self.put(command['kind'], command)
-        self.entries += 1
-        return {'entry': self.entries - 1}
+        return {'entry': len(self.texts) - 1}
 
     def put(self, kind, command):
         for member, form in MEMBERS[kind].items():
@@ -403,6 +429,7 @@ class Service:
             raise Fault('A4')
         if name not in table and len(table) >= limit:
             raise Fault('A6')
+        self.store(journals.command_text(command), 'A7')
         table[name] = what
 
 
@@ -581,6 +608,12 @@ def is_principal(text):
     return parts is not None and (parts['subject'] is not None or parts['account'] is not None)
 
 
+def provider_path(audience):
+    """PROJECT/POOL/PROVIDER of a provider's full name."""
+    words = audience.split('/')
+    return '/'.join((words[4], words[8], words[10]))
+
+
 def name_of(who):
     """The name of who asks, or none where it is nobody of a form."""
     if not isinstance(who, dict):
@@ -621,7 +654,7 @@ def refusal(text):
     code = text.partition(' ')[0]
     others = {**dict.fromkeys(('U1', 'I1', 'I7'), (401, 'invalid_token')), **dict.fromkeys(('I8', 'I9'), (403, 'permission_denied')),
               'H4': (404, 'not_found'), 'E4': (400, 'unsupported_grant_type'), 'E11': (400, 'invalid_scope'),
-              **dict.fromkeys(('E10', 'E14', 'E15'), (400, 'invalid_target'))}
+              **dict.fromkeys(('E10', 'E14', 'E15'), (400, 'invalid_target')), **dict.fromkeys(('E26', 'I12', 'A7'), (503, 'journal_full'))}
     status, word = others.get(code, (400, 'invalid_argument' if code[0] in 'ACI' else 'invalid_request'))
     return status, {'error': word, 'error_description': text}
 
