@@ -128,11 +128,13 @@ impl Link for ScriptLink {
     fn call(&mut self, alloc: Global, target: Target, request: &[u8]) -> Result<Bytes, LinkError>
         ensures size { IfOk result (λ reply. length reply ≤ REPLY_LIMIT) }
         ensures told { MatchResult result
-            (λ reply. Adds (⟦<ScriptLink as Link>⟧.calls self.old) (⟦<ScriptLink as Link>⟧.calls self.new) (record { target = target; request = request.now; reply = reply }))
+            (λ reply. Adds (⟦<ScriptLink as Link>⟧.calls self.old) (⟦<ScriptLink as Link>⟧.calls self.new)
+            (record { target = target; request = request.now; reply = reply }))
             (λ _. Keeps (⟦<ScriptLink as Link>⟧.calls self.old) (⟦<ScriptLink as Link>⟧.calls self.new)) }
         ensures cause { FailsByCount (⟦<ScriptLink as Link>⟧.faults self.old) (⟦<ScriptLink as Link>⟧.faults self.new) result }
         ensures same { ⟦<ScriptLink as Link>⟧.lender self.new ≡ ⟦<ScriptLink as Link>⟧.lender self.old }
-        ensures reply { IfOk result (λ reply. script.script_reply self.old.fail.items self.old.made self.old.replies.items (length self.old.answered.items) ≡ Some reply) }
+        ensures reply { IfOk result (λ reply.
+            script.script_reply self.old.fail.items self.old.made self.old.replies.items (length self.old.answered.items) ≡ Some reply) }
         ensures failed { (result ≡ Err Failed)
             ↔ (script.script_reply self.old.fail.items self.old.made self.old.replies.items (length self.old.answered.items) ≡ None) }
         ensures count { CountsFailed (⟦<ScriptLink as Link>⟧.faults self.old) (⟦<ScriptLink as Link>⟧.faults self.new) result }

@@ -108,7 +108,8 @@ impl<R: Net + Files<File = File> + Clock> Link for TcpLink<R> {
     fn call(&mut self, alloc: Global, target: Target, request: &[u8]) -> Result<Bytes, LinkError>
         ensures size { IfOk result (λ reply. length reply ≤ REPLY_LIMIT) }
         ensures told { MatchResult result
-            (λ reply. Adds (⟦<TcpLink<R> as Link>⟧.calls self.old) (⟦<TcpLink<R> as Link>⟧.calls self.new) (record { target = target; request = request.now; reply = reply }))
+            (λ reply. Adds (⟦<TcpLink<R> as Link>⟧.calls self.old) (⟦<TcpLink<R> as Link>⟧.calls self.new)
+            (record { target = target; request = request.now; reply = reply }))
             (λ _. Keeps (⟦<TcpLink<R> as Link>⟧.calls self.old) (⟦<TcpLink<R> as Link>⟧.calls self.new)) }
         ensures cause { FailsByCount (⟦<TcpLink<R> as Link>⟧.faults self.old) (⟦<TcpLink<R> as Link>⟧.faults self.new) result }
         ensures same { ⟦<TcpLink<R> as Link>⟧.lender self.new ≡ ⟦<TcpLink<R> as Link>⟧.lender self.old }

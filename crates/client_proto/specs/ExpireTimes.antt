@@ -25,6 +25,7 @@ end_forms =
     codes "Z" ∷ codes ".dZ" ∷ codes ".ddZ" ∷ codes ".dddZ" ∷ codes ".ddddZ" ∷ codes ".dddddZ" ∷ codes ".ddddddZ" ∷ codes ".dddddddZ"
     ∷ codes ".ddddddddZ" ∷ codes ".dddddddddZ" ∷ []
 
+-- what may stand behind the second
 abbrev pub is_end : List ℕ → Bool
 is_end text = list_any (λ form. fits_form form text) end_forms
 

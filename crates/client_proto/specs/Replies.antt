@@ -48,7 +48,9 @@ is_bearer text = str_eq_ignore_ascii_case text (codes "bearer")
 
 -- so many seconds after the moment, at most 1,000,000
 abbrev pub end_after : ℕ → Data → Option ℕ
-end_after asked d = option_map (λ seconds. asked + seconds) (option_and_then (passing (λ seconds. nat_le seconds 1_000_000)) (whole_number_at (codes "expires_in") d))
+end_after asked d =
+    option_map (λ seconds. asked + seconds)
+    (option_and_then (passing (λ seconds. nat_le seconds 1_000_000)) (whole_number_at (codes "expires_in") d))
 
 -- an access token and its end, of a request that was asked at the moment (RFC 6749, section 5.1)
 abbrev pub access_token : ℕ → Data → Option (List ℕ × ℕ)
@@ -71,6 +73,7 @@ token_of Credential asked d = None
 token_of Token asked d = access_token asked d
 token_of Account asked d = account_token d
 
+-- the token and its end, and Bad where there are none
 abbrev pub told_token : Option (List ℕ × ℕ) → ReadReply
 told_token None = reading.Bad
 told_token (Some told) = reading.Token told.0 told.1

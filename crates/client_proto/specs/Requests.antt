@@ -15,18 +15,23 @@ line_end = 13 ∷ 10 ∷ []
 abbrev pub line : List ℕ → List ℕ
 line text = text ++ line_end
 
+-- the request line of a POST to the URL's path
 abbrev pub request_line : Url → List ℕ
 request_line url = codes "POST " ++ (url.path ++ codes " HTTP/1.1")
 
+-- the field that names the host, and the port where the URL does
 abbrev pub host_line : Url → List ℕ
 host_line url = codes "Host: " ++ authority_text url
 
+-- the field of the body's type
 abbrev pub type_line : List ℕ → List ℕ
 type_line type = codes "Content-Type: " ++ type
 
+-- the field of the body's length
 abbrev pub length_line : ℕ → List ℕ
 length_line size = codes "Content-Length: " ++ decimal size
 
+-- the field of the bearer's token (RFC 6750, section 2.1)
 abbrev pub bearer_line : List ℕ → List ℕ
 bearer_line token = codes "Authorization: Bearer " ++ token
 

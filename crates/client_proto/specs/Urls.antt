@@ -16,9 +16,11 @@ abbrev pub with_port : List ℕ → Option ℕ → List ℕ
 with_port host None = host
 with_port host (Some port) = host ++ (codes ":" ++ decimal port)
 
+-- a URL's host and port
 abbrev pub authority_text : Url → List ℕ
 authority_text url = with_port url.host url.port
 
+-- a URL as a text
 abbrev pub url_text : Url → List ℕ
 url_text url = codes "http://" ++ (authority_text url ++ url.path)
 
@@ -28,6 +30,7 @@ url_text url = codes "http://" ++ (authority_text url ++ url.path)
 abbrev pub is_path : List ℕ → Bool
 is_path text = begins_with 47 text && (nat_le (length text) 2048 && is_visible_text text)
 
+-- from 1 to 65,535
 abbrev pub is_port : ℕ → Bool
 is_port port = nat_le 1 port && nat_le port 65535
 

@@ -75,7 +75,8 @@ pieces (call ∷ calls) = put_before call (pieces calls)
 abbrev pub AreGivenBy : ClientConfig → List (List LinkCall) → List Renewal → Type 0
 AreGivenBy config pieces [] = ⊤
 AreGivenBy config [] (renewal ∷ rest) = ⊥
-AreGivenBy config (piece ∷ pieces) (renewal ∷ rest) = (IsRenewal config piece renewal × AreGivenBy config pieces rest) ⊎ AreGivenBy config pieces (renewal ∷ rest)
+AreGivenBy config (piece ∷ pieces) (renewal ∷ rest) =
+    (IsRenewal config piece renewal × AreGivenBy config pieces rest) ⊎ AreGivenBy config pieces (renewal ∷ rest)
 
 -- each of the renewals was given by calls among these, in their order
 abbrev pub Renewed : ClientConfig → List LinkCall → List Renewal → Type 0
