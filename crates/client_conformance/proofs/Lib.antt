@@ -1,0 +1,5 @@
+pub mod Bodies
+pub mod Heads
+pub mod Parameters
+pub mod Texts
+pub mod Visibles
