@@ -1,0 +1,4 @@
+mod Beginning
+mod Counting
+mod LastToken
+mod RoundsMore

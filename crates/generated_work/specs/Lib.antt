@@ -1,0 +1,5 @@
+pub mod Draws
+pub mod Requests
+pub mod Run
+pub mod Setting
+pub mod Told
