@@ -14,6 +14,7 @@ fn answer(alloc: Global, call: &str, inputs: &Inputs) -> Result<String, AllocErr
         "frame" => service::frame(alloc, inputs),
         "journal" => journals::journal(alloc, inputs),
         "script" => service::script(alloc, inputs),
+        "connection" => service::connection(alloc, inputs),
         "chains" => service::chains(alloc, inputs),
         "admits" => service::admitted(alloc, inputs),
         _ => "no such call".to_owned(alloc),

@@ -1,6 +1,7 @@
 ghost use Rattle.service_config.specs.Formed.{IsFormedConfig};
 
 use case_inputs::{Inputs, escaped};
+use http_serve::serve_connection;
 use iam_names::{Permission, Resource};
 use links::{State, admits, chain_of};
 use service_config::{Config, read_service_config};
@@ -8,7 +9,7 @@ use service_journal::OpenFault;
 use std::alloc::{AllocError, Global};
 use sts_core::Sts;
 use sts_serve::{Found, Served, read_frame, run_script};
-use wif_base::{MemDisk, MemSink, MemSource};
+use wif_base::{MemClock, MemDisk, MemSink, MemSource};
 
 const CONFIG: &[u8] =
     br#"{"issuer":"https://sts.example","key":"U1NTU1NTU1NTU1NTU1NTU1NTU1NTU1NTU1NTU1NTU1M","admin":"admin-secret-000001","gate":"gate-secret-0000001"}"#;
@@ -33,6 +34,31 @@ pub(crate) fn script(alloc: Global, inputs: &Inputs) -> Result<String, AllocErro
     drop(sts.close());
     let written = escaped(alloc, output.bytes.as_slice())?;
     format!(in alloc; "{end:?} {written}")
+}
+
+/// `connection MOMENTS BYTES`: how the run over a connection ends whose clock gives these moments, and its output.
+pub(crate) fn connection(alloc: Global, inputs: &Inputs) -> Result<String, AllocError> {
+    let mut input = MemSource::new(inputs.bytes(1).to_vec(alloc)?, Vec::new(alloc));
+    let mut output = MemSink::new(Vec::with_capacity(alloc, 65536)?, Vec::new(alloc));
+    let mut clock = MemClock::new(moments(alloc, inputs.text(0))?, Vec::new(alloc));
+    let Some(mut sts) = opened(alloc)? else {
+        return "no service".to_owned(alloc);
+    };
+    let end = serve_connection(alloc, &mut sts, &mut input, &mut output, &mut clock);
+    drop(sts.close());
+    let written = escaped(alloc, output.bytes.as_slice())?;
+    format!(in alloc; "{end:?} {written}")
+}
+
+// The moments of a text, at most 200,000,000,000.
+fn moments(alloc: Global, text: &str) -> Result<Vec<u64>, AllocError> {
+    let mut moments = Vec::new(alloc);
+    for word in text.split_ascii_whitespace() {
+        if let Ok(moment) = word.parse::<u64>() {
+            moments.push(moment.min(200_000_000_000))?;
+        }
+    }
+    Ok(moments)
 }
 
 /// `chains FRAMES`: the numbers of the links that each recorded link goes back to, behind the frames.
@@ -89,33 +115,34 @@ fn admitted_in(alloc: Global, state: &State, inputs: &Inputs) -> Result<String, 
     Ok(told)
 }
 
-// Runs the frames over the configuration of the cases.
+// Runs the frames over the service of the cases.
 fn run(
     alloc: Global,
     frames: &[u8],
     output: &mut MemSink,
 ) -> Result<Option<(Sts<MemDisk>, Served)>, AllocError> {
     let mut input = MemSource::new(frames.to_vec(alloc)?, Vec::new(alloc));
+    let Some(mut sts) = opened(alloc)? else {
+        return Ok(None);
+    };
+    let end = run_script(alloc, &mut sts, &mut input, output);
+    Ok(Some((sts, end)))
+}
+
+// The service over an empty journal, under the configuration of the cases.
+fn opened(alloc: Global) -> Result<Option<Sts<MemDisk>>, AllocError> {
     match read_service_config(alloc, CONFIG) {
-        Ok(config) => run_under(alloc, &config, &mut input, output),
+        Ok(config) => opened_under(alloc, &config),
         Err(_) => Ok(None),
     }
 }
 
-fn run_under(
-    alloc: Global,
-    config: &Config,
-    input: &mut MemSource,
-    output: &mut MemSink,
-) -> Result<Option<(Sts<MemDisk>, Served)>, AllocError>
+fn opened_under(alloc: Global, config: &Config) -> Result<Option<Sts<MemDisk>>, AllocError>
     requires { IsFormedConfig config.now }
 {
     let disk = MemDisk::new(alloc, EMPTY_JOURNAL, 262_144, 4096, Vec::new(alloc))?;
     match Sts::open(alloc, disk, config) {
-        Ok(mut sts) => {
-            let end = run_script(alloc, &mut sts, input, output);
-            Ok(Some((sts, end)))
-        }
+        Ok(sts) => Ok(Some(sts)),
         Err(OpenFault::Memory) => Err(AllocError),
         Err(OpenFault::Fault) | Err(OpenFault::Refused { .. }) => Ok(None),
     }

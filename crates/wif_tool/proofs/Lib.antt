@@ -1,3 +1,6 @@
+mod Connected
 mod LineStatus
+mod Listened
 mod NotOpening
 mod Outcome
+mod Worked

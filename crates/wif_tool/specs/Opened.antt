@@ -27,12 +27,24 @@ pub record Holds (config : Config) (entries : List Entry) (told : Option Told) :
 abbrev pub NoJournal : Config → List ℕ → Type 0
 NoJournal config bytes = (entries : List Entry) → IsKept config entries → StandsForEntries entries bytes → ⊥
 
--- How a run ends that didn't open the journal: the disk failed, the file is refused and a line tells the place and the rule, or memory ran out.
+-- What each fault of the opening says of the disk, which a sync alone may have changed.
+abbrev pub NotRead : OpenFault → Config → Option Told → Option Told → Type 0
+NotRead Fault config old new = (new ≡ old) ⊎ (new ≡ told_synced old)
+NotRead (Refused at rule) config old new = IfSome old (λ told. IsRefusedAt config told.now.bytes at rule) × (new ≡ told_synced old)
+NotRead Memory config old new = new ≡ told_synced old
+
+-- How a run over a script ends that didn't open the journal: the disk failed, the file is refused and a line tells the place and the rule, or
+-- memory ran out.
 abbrev pub NotOpened : OpenFault → Config → Option Told → Option Told → Option (List ℕ) → Option (List ℕ) → ℕ → Type 0
-NotOpened Fault config old new taken taken' status = (status ≡ 5) × (taken' ≡ taken) × ((new ≡ old) ⊎ (new ≡ told_synced old))
-NotOpened (Refused at rule) config old new taken taken' status = LineDue (refusal_line at rule) 6 taken taken' status
-    × IfSome old (λ told. IsRefusedAt config told.now.bytes at rule) × (new ≡ told_synced old)
-NotOpened Memory config old new taken taken' status = (status ≡ 7) × (taken' ≡ taken) × (new ≡ told_synced old)
+NotOpened Fault config old new taken taken' status = (status ≡ 5) × (taken' ≡ taken) × NotRead Fault config old new
+NotOpened (Refused at rule) config old new taken taken' status = LineDue (refusal_line at rule) 6 taken taken' status × NotRead (Refused at rule) config old new
+NotOpened Memory config old new taken taken' status = (status ≡ 7) × (taken' ≡ taken) × NotRead Memory config old new
+
+-- the status of each fault of the opening where no line tells of it
+abbrev pub fault_status : OpenFault → ℕ
+fault_status Fault = 5
+fault_status (Refused at rule) = 6
+fault_status Memory = 7
 
 -- A line tells the place and the rule by which the file is refused, and a sync alone has changed the disk.
 pub record IsRefused (config : Config) (old new : Option Told) (taken taken' : Option (List ℕ)) : Type 0 where

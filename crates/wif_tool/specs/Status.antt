@@ -1,5 +1,5 @@
 -- How a run of the program ends: its status, and what it read and wrote.
-use Rattle.std.specs.Prelude.{◌≡◌, ◌≢◌, ◌≤◌, ◌<◌, ◌⊎◌, ℕ, ◌+◌, List, [], ◌++◌, length, Option, Some}
+use Rattle.std.specs.Prelude.{◌≡◌, ◌≢◌, ◌≤◌, ◌<◌, ◌⊎◌, ℕ, List, [], ◌++◌, length, Option, Some}
 use Rattle.std.specs.List.{AllByRecursion, concat}
 use Rattle.std.specs.Io.KnownBytes.{Consumes, Appends, IsAtEnd}
 use Rattle.wif_base.specs.Carried.{input_limit}
@@ -25,7 +25,7 @@ use Rattle.sts_serve.specs.declared.served.Served.TheVariants.{Done, ReadFault, 
 use Rattle.wif_tool.specs.Command.{command}
 use Rattle.wif_tool.specs.Lines.{LineDue, malformed_line}
 use Rattle.wif_tool.specs.Opened.{LeavesDisk, NoJournal}
-use Rattle.wif_tool.specs.declared.command.Command.TheVariants.{Cel, Script}
+use Rattle.wif_tool.specs.declared.command.Command.TheVariants.{Cel}
 
 -- ---- the configuration
 
@@ -106,36 +106,38 @@ pub record AnsweredUpTo (config : Config) (before : List Entry) (left left' take
   pub output : Appends taken taken' (replies_text config before frames ++ malformed_line (length (script_text frames)))
   pub disk : LeavesNow told' (StandsFor (texts_of (entries_after (answer config) before frames)))
 
--- ---- a run whose words, configuration and input have their forms
+-- ---- what is of its form before a run
 
--- The words are `script`, and what there is is this configuration.
-pub record HasSetup (words : List (List ℕ)) (config : Option (List ℕ)) (setup : Config) : Type 0 where
-  pub script : command words ≡ Some Script
+-- What there is is this configuration.
+pub record HasSetup (config : Option (List ℕ)) (setup : Config) : Type 0 where
   pub bytes : List ℕ
   pub told : config ≡ Some bytes
   pub configured : IsConfiguration bytes setup
 
--- The words are `script`, the configuration and the input are of their forms, and the disk holds a journal of that configuration.
-pub record HasForms (words : List (List ℕ)) (config input : Option (List ℕ)) (disk : Option Told) : Type 0 where
+-- The configuration is of its form, and the disk holds a journal of it.
+pub record HoldsJournal (config : Option (List ℕ)) (disk : Option Told) : Type 0 where
   pub setup : Config
-  pub configured : HasSetup words config setup
-  pub frames : List Frame
-  pub each : AllByRecursion IsFrame frames
-  pub whole : input ≡ Some (script_text frames)
-  pub within : length (script_text frames) ≤ input_limit
+  pub configured : HasSetup config setup
   pub held : Told
   pub tells : disk ≡ Some held
   pub entries : List Entry
   pub kept : IsKept setup entries
   pub stands : StandsForEntries entries held.now.bytes
 
--- The words are `script`, the configuration is of its form, and the disk holds no journal of that configuration.
-pub record HasNoJournal (words : List (List ℕ)) (config : Option (List ℕ)) (disk : Option Told) : Type 0 where
+-- The configuration is of its form, and the disk holds no journal of it.
+pub record HoldsNoJournal (config : Option (List ℕ)) (disk : Option Told) : Type 0 where
   pub setup : Config
-  pub configured : HasSetup words config setup
+  pub configured : HasSetup config setup
   pub held : Told
   pub tells : disk ≡ Some held
   pub none : NoJournal setup held.now.bytes
+
+-- The input is a script, of at most 2^30 bytes.
+pub record HasScript (input : Option (List ℕ)) : Type 0 where
+  pub frames : List Frame
+  pub each : AllByRecursion IsFrame frames
+  pub whole : input ≡ Some (script_text frames)
+  pub within : length (script_text frames) ≤ input_limit
 
 -- ---- a run over lines
 

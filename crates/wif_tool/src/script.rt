@@ -3,17 +3,16 @@ ghost use Rattle.wif_base.specs.Causes.{Rose};
 ghost use Rattle.wif_base.specs.Disk.{Told, told_synced};
 ghost use Rattle.links.specs.declared.entry.Entry.{Entry};
 ghost use Rattle.service_config.specs.declared.config.Config.{Config};
-ghost use Rattle.service_journal.specs.declared.opening.OpenFault.{OpenFault as Unopened};
+ghost use Rattle.service_journal.specs.declared.opening.OpenFault.{OpenFault as Unread};
 ghost use Rattle.sts_core.specs.Opened.{FindsService};
-ghost use Rattle.sts_core.specs.State.{IsSetUp};
-ghost use Rattle.wif_tool.specs.Opened.{Holds, NotOpened};
+ghost use Rattle.wif_tool.specs.Opened.{Holds, NotOpened, NotRead};
 ghost use Rattle.wif_tool.specs.Status.{Closes, Configured, NoConfiguration, NotConfigured, StopsBefore, ScriptOutcome};
 
 use crate::fault_line::{write_malformed_line, write_refusal_line};
-use crate::setup::{SetupEnd, read_setup};
+use crate::opening::{Unopened, open_service, setup_status};
 use service_journal::OpenFault;
 use std::alloc::Global;
-use sts_core::{Opening, Setup, Stop, Sts, open_on};
+use sts_core::{Opening, Stop, Sts};
 use sts_serve::{Served, run_script};
 use wif_base::{Disk, Sink, Source};
 
@@ -27,7 +26,7 @@ pub(crate) fn script_status<G: Source, I: Source, O: Sink, D: Disk>(
 ) -> u8
     ensures outcome { (StopsBefore result × (input.new ≡ input.old) × (output.new ≡ output.old) × (disk.new ≡ disk.old))
         ⊎ ((setup : _) × Configured (G.left config.old) (G.left config.new) setup
-        × (((fault : Unopened) × NotOpened fault setup (D.told disk.old) (D.told disk.new) (O.taken output.old) (O.taken output.new) result × (input.new ≡ input.old))
+        × (((fault : Unread) × NotOpened fault setup (D.told disk.old) (D.told disk.new) (O.taken output.old) (O.taken output.new) result × (input.new ≡ input.old))
         ⊎ ((before : List Entry) × Holds setup before (D.told disk.old)
         × ScriptOutcome setup before (I.left input.old) (I.left input.new) (O.taken output.old) (O.taken output.new)
         (told_synced (D.told disk.old)) (D.told disk.new) result))) }
@@ -39,39 +38,25 @@ pub(crate) fn script_status<G: Source, I: Source, O: Sink, D: Disk>(
     ensures disk_fault { result ≡ 5 → Rose (D.faults disk.old) (D.faults disk.new) }
     ensures no_other { (result ≢ 2) × (result ≢ 9) × (result ≤ 10) }
 {
-    let setup = match read_setup(alloc, config) {
-        Ok(setup) => setup,
-        Err(SetupEnd::Failed) => return 3,
-        Err(SetupEnd::Form) => return 1,
-        Err(SetupEnd::Memory) => return 7,
-    };
-    serve_journal(alloc, setup, input, output, disk)
+    match open_service(alloc, config, disk) {
+        Ok(opening) => run_over(alloc, opening, input, output, disk),
+        Err(Unopened::Setup(end)) => setup_status(end),
+        Err(Unopened::Journal(fault)) => tell_fault(alloc, output, fault),
+    }
 }
 
-// Opens the journal on the disk, and runs over it.
-fn serve_journal<I: Source, O: Sink, D: Disk>(
-    alloc: Global,
-    setup: Setup,
-    input: &mut I,
-    output: &mut O,
-    disk: &mut D,
-) -> u8
-    requires { (config : Config) × IsSetUp setup config }
-    ensures outcome { (config : Config) → IsSetUp setup config
-        → ((fault : Unopened) × NotOpened fault config (D.told disk.old) (D.told disk.new) (O.taken output.old) (O.taken output.new) result × (input.new ≡ input.old))
-        ⊎ ((before : List Entry) × Holds config before (D.told disk.old)
-        × ScriptOutcome config before (I.left input.old) (I.left input.new) (O.taken output.old) (O.taken output.new)
-        (told_synced (D.told disk.old)) (D.told disk.new) result) }
-    ensures read_fault { result ≡ 3 → Rose (I.faults input.old) (I.faults input.new) }
+// The status of a journal that wasn't opened, and the line that tells a place.
+fn tell_fault<O: Sink>(alloc: Global, output: &mut O, fault: OpenFault) -> u8
+    ensures told { (config : Config) (old new : Option Told) → NotRead fault config old new
+        → NotOpened fault config old new (O.taken output.old) (O.taken output.new) result }
     ensures write_fault { result ≡ 4 → Rose (O.faults output.old) (O.faults output.new) }
-    ensures disk_fault { result ≡ 5 → Rose (D.faults disk.old) (D.faults disk.new) }
-    ensures no_other { (result ≢ 1) × (result ≢ 2) × (result ≢ 9) × (result ≤ 10) }
+    ensures disk_fault { result ≡ 5 → fault ≡ Unread.Fault }
+    ensures no_other { (4 ≤ result) × (result ≤ 7) }
 {
-    match open_on(alloc, disk, setup) {
-        Ok(opening) => run_over(alloc, opening, input, output, disk),
-        Err(OpenFault::Fault) => 5,
-        Err(OpenFault::Refused { at, rule }) => write_refusal_line(alloc, output, at, rule),
-        Err(OpenFault::Memory) => 7,
+    match fault {
+        OpenFault::Fault => 5,
+        OpenFault::Refused { at, rule } => write_refusal_line(alloc, output, at, rule),
+        OpenFault::Memory => 7,
     }
 }
 

@@ -1,5 +1,9 @@
-use crate::sts_run;
+ghost use Rattle.std.specs.Prelude.{◌≡◌, false, IfOk};
+
+use crate::{sts_listen, sts_run};
+use connection_ends::{Ends, MemEnds, MemPair};
 use std::alloc::{AllocError, Global};
+use std::collections::VecDeque;
 use std::test::Fail;
 use wif_base::{DripSource, MemClock, MemDisk, MemSink, MemSource, Source};
 
@@ -164,7 +168,7 @@ fn each_call_of_the_outside_may_fail(rt: HostRuntime) -> Result<(), Fail> {
 #[test]
 fn words_and_configuration_are_looked_at_first(rt: HostRuntime) -> Result<(), Fail> {
     let alloc = rt.alloc();
-    let cases: [(&str, &[u8], u8); 15] = [
+    let cases: [(&str, &[u8], u8); 16] = [
         ("script c j", CONFIG, 0),
         ("init", CONFIG, 2),
         ("Init j", CONFIG, 2),
@@ -177,9 +181,10 @@ fn words_and_configuration_are_looked_at_first(rt: HostRuntime) -> Result<(), Fa
         ("script c", CONFIG, 2),
         ("script c j x", CONFIG, 2),
         ("Script c j", CONFIG, 2),
-        ("stdio c j", CONFIG, 2),
+        ("stdio c j", CONFIG, 0),
+        ("stdio c", CONFIG, 2),
         ("script c j", b"", 1),
-        ("stdio c j", b"", 2),
+        ("stdio c j", b"", 1),
     ];
     for (line, config, status) in cases {
         let mut input = MemSource::new(Vec::new(alloc), Vec::new(alloc));
@@ -254,6 +259,90 @@ fn lines_are_answered_by_the_word_cel(rt: HostRuntime) -> Result<(), Fail> {
         let ran = run_with(alloc, "cel", CONFIG, &mut source, failing)?;
         assert_eq!(rt; ran.status, status);
         assert_eq!(rt; ran.output.as_str(), wanted);
+    }
+    Ok(())
+}
+
+const ASKED: &[u8] =
+    b"POST /v1/introspect HTTP/1.1\r\nAuthorization: Bearer gate-secret-0000001\r\nContent-Type: application/x-www-form-urlencoded\r\nContent-Length: 7\r\n\r\ntoken=a";
+
+const ANSWERED: &[u8] =
+    b"HTTP/1.1 200 OK\r\nContent-Type: application/json\r\nContent-Length: 16\r\nCache-Control: no-store\r\nPragma: no-cache\r\n\r\n{\"active\":false}";
+
+#[test]
+fn a_request_without_a_moment_has_no_reply(rt: HostRuntime) -> Result<(), Fail> {
+    let alloc = rt.alloc();
+    let words = words_of(alloc, "stdio c j")?;
+    let mut config = MemSource::new(CONFIG.to_vec(alloc)?, Vec::new(alloc));
+    let mut twice = ASKED.to_vec(alloc)?;
+    twice.extend_from_slice(ASKED)?;
+    let mut input = MemSource::new(twice, Vec::new(alloc));
+    let mut output = sink_of(alloc, 999)?;
+    let mut disk = MemDisk::new(alloc, JOURNAL, 4096, 64, Vec::new(alloc))?;
+    let mut clock = MemClock::new(vec![in alloc; 1_700_000_000]?, Vec::new(alloc));
+    let status = sts_run(
+        alloc,
+        &words,
+        &mut config,
+        &mut input,
+        &mut output,
+        &mut disk,
+        &mut clock,
+    );
+    let bytes = output.bytes;
+    assert_eq!(rt; status, 9);
+    assert_eq!(rt; bytes.as_slice(), ANSWERED);
+    Ok(())
+}
+
+// Two connections with one request each, of which the calls with these numbers fail.
+fn two_ends(alloc: Global, fail: Vec<u64>) -> Result<MemEnds, AllocError>
+    ensures { IfOk result (λ ends. ⟦<MemEnds as Ends>⟧.is_out ends ≡ false) }
+{
+    let mut waiting = VecDeque::new(alloc);
+    for _ in 0..2 {
+        let input = MemSource::new(ASKED.to_vec(alloc)?, Vec::new(alloc));
+        let output = sink_of(alloc, 999)?;
+        waiting.push_back(MemPair { input, output })?;
+    }
+    MemEnds::new(alloc, waiting, fail)
+}
+
+fn listen(alloc: Global, line: &str, ends: &mut MemEnds) -> Result<u8, AllocError>
+    requires { ⟦<MemEnds as Ends>⟧.is_out ends.old ≡ false }
+{
+    let words = words_of(alloc, line)?;
+    let mut config = MemSource::new(CONFIG.to_vec(alloc)?, Vec::new(alloc));
+    let mut disk = MemDisk::new(alloc, JOURNAL, 4096, 64, Vec::new(alloc))?;
+    let mut clock = MemClock::new(
+        vec![in alloc; 1_700_000_000, 1_700_000_001]?,
+        Vec::new(alloc),
+    );
+    Ok(sts_listen(alloc, &words, &mut config, ends, &mut disk, &mut clock))
+}
+
+#[test]
+fn connections_are_served_one_after_another(rt: HostRuntime) -> Result<(), Fail> {
+    let alloc = rt.alloc();
+    let cases: [(&str, u64, u8, usize); 5] = [
+        ("listen c j 8080 2", 999, 0, 2),
+        ("listen c j 8080 2", 1, 3, 1),
+        ("listen c j 8080 3", 999, 3, 2),
+        ("listen c j 65536 2", 999, 2, 0),
+        ("listen c j 8080 02", 999, 2, 0),
+    ];
+    for (line, failing, wanted, count) in cases {
+        let mut ends = two_ends(alloc, vec![in alloc; failing]?)?;
+        let status = listen(alloc, line, &mut ends)?;
+        let given = ends.given;
+        let all = given
+            .iter()
+            .all(|pair| pair.output.bytes.as_slice() == ANSWERED);
+        let served = given.len();
+        drop(given);
+        assert_eq!(rt; status, wanted, "{line}");
+        assert_eq!(rt; served, count, "{line}");
+        assert!(rt; all, "{line}");
     }
     Ok(())
 }

@@ -1,6 +1,5 @@
-use Rattle.std.proofs.Common.{◌≡◌, List, ℕ, ap, subst}
-use Rattle.std.specs.Prelude.{Result, Err}
-use Rattle.wif_tool.specs.Status.{NotConfigured}
+use Rattle.std.proofs.Common.{List, ℕ, ap, subst}
+use Rattle.std.specs.Prelude.{Err}
 use Rattle.service_config.specs.Configuration.{IsConfiguration}
 use Rattle.service_config.specs.declared.config.Config.{Config}
 use Rattle.service_config.specs.declared.config.ConfigError.{ConfigError}
