@@ -19,6 +19,7 @@ pub use client_file::read_config;
 pub use config::{ClientConfig, Url};
 pub use fault::{ClientMember, ConfigFault, SubjectFault};
 pub use laws::{a_reply_is_read_in_one_way, urls_are_their_parts};
+pub use number::read_decimal;
 pub use reply::{ReadReply, read_reply};
 pub use request::{account_request, exchange_request};
 pub use subject::subject_of;

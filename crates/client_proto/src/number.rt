@@ -4,7 +4,7 @@ ghost use Rattle.client_proto.specs.Numbers.{decimal_up_to};
 use std::alloc::{AllocError, Global};
 
 /// The number that a decimal text is, up to so much: digits without a sign and without a leading zero.
-pub(crate) fn read_decimal(alloc: Global, text: &str, most: u64) -> Result<Option<u64>, AllocError>
+pub fn read_decimal(alloc: Global, text: &str, most: u64) -> Result<Option<u64>, AllocError>
     ensures { IfOk result (λ number. number ≡ decimal_up_to most text.now) }
 {
     let Ok(number) = text.parse::<u64>() else {

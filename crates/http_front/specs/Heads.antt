@@ -18,6 +18,7 @@ pub record IsHead (head : RequestHead) : Type 0 where
   pub fields : length head.fields ≤ 64
   pub size : length (print_request head) ≤ 16384
 
+-- the names and values of a head's fields
 abbrev pub fields_of : RequestHead → Fields
 fields_of head = map name_and_value head.fields
 
@@ -47,14 +48,17 @@ rules_of method target fields =
 unfoldable pub fault_of : List ℕ → List ℕ → Fields → Option HttpRule
 fault_of method target fields = first_of (rules_of method target fields)
 
+-- the first rule that the head breaks
 abbrev pub fault : RequestHead → Option HttpRule
 fault head = fault_of head.method head.target (fields_of head)
 
 -- ---- what the head says
 
+-- how many bytes follow as the body
 abbrev pub body_length : RequestHead → ℕ
 body_length head = length_of (values (codes "content-length") (fields_of head))
 
+-- the token that the head brings
 abbrev pub bearer : RequestHead → Option (List ℕ)
 bearer head = bearer_of (values (codes "authorization") (fields_of head))
 

@@ -8,6 +8,7 @@ use Rattle.http_front.specs.declared.incoming.Incoming.{Incoming}
 use Rattle.http_front.specs.declared.rule.HttpRule.{HttpRule}
 use Rattle.http_front.specs.declared.rule.HttpRule.TheVariants.{H11}
 
+-- a head, and the body behind it
 pub record Message : Type 0 where
   pub head : RequestHead
   pub body : List ℕ
@@ -18,6 +19,7 @@ pub record IsMessage (message : Message) : Type 0 where
   pub sound : fault message.head ≡ None
   pub body : length message.body ≡ body_length message.head
 
+-- its bytes: the head, and the body behind it
 unfoldable pub message_text : Message → List ℕ
 message_text message = print_request message.head ++ message.body
 

@@ -9,9 +9,11 @@ use Rattle.http_front.specs.declared.reply.WriteEnd.{WriteEnd}
 use Rattle.http_front.specs.declared.reply.WriteEnd.TheVariants as write_end
 use Rattle.http_front.specs.declared.rule.HttpRule.{HttpRule}
 
+-- the end of a line
 abbrev pub crlf : List ℕ
 crlf = 13 ∷ 10 ∷ []
 
+-- the phrase behind a status (RFC 9110, section 15)
 abbrev pub reason : ℕ → List ℕ
 reason status = if status == 200 then codes "OK" else codes "Refused"
 
@@ -23,9 +25,11 @@ challenge status = if status == 401 then codes "WWW-Authenticate: Bearer" ++ crl
 abbrev pub farewell : Bool → List ℕ
 farewell close = if close then codes "Connection: close" ++ crlf else []
 
+-- the first line of a reply (RFC 9112, section 4)
 unfoldable pub status_line : ℕ → List ℕ
 status_line status = codes "HTTP/1.1 " ++ (decimal status ++ (32 ∷ (reason status ++ crlf)))
 
+-- the field that tells the body's length
 unfoldable pub length_line : ℕ → List ℕ
 length_line size = codes "Content-Length: " ++ (decimal size ++ crlf)
 

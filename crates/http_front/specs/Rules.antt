@@ -3,6 +3,7 @@ use Rattle.std.specs.Prelude.{◌≡◌, ◌⊎◌, ℕ, List, codes}
 use Rattle.http_front.specs.declared.rule.HttpRule.{HttpRule}
 use Rattle.http_front.specs.declared.rule.HttpRule.TheVariants.{H1, H2, H3, H4, H5, H6, H7, H8, H9, H10, H11}
 
+-- the place of a rule among the rules
 abbrev pub number_of : HttpRule → ℕ
 number_of H1 = 1
 number_of H2 = 2
@@ -30,6 +31,7 @@ status H9 = 413
 status H10 = 415
 status H11 = 400
 
+-- the error word of a refusal
 abbrev pub word : HttpRule → List ℕ
 word H1 = codes "bad_request"
 word H2 = codes "head_too_large"
@@ -43,6 +45,7 @@ word H9 = codes "body_too_large"
 word H10 = codes "unsupported_media_type"
 word H11 = codes "bad_request"
 
+-- the code of a refusal
 abbrev pub code : HttpRule → List ℕ
 code H1 = codes "H1"
 code H2 = codes "H2"

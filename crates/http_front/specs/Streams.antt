@@ -6,6 +6,7 @@ use Rattle.http_front.specs.Messages.{Message, IsMessage, message_text, Refused}
 use Rattle.http_front.specs.Rules.{IsOfNoHead}
 use Rattle.http_front.specs.declared.rule.HttpRule.{HttpRule}
 
+-- the bytes of the requests, one after another
 abbrev pub stream_text : List Message → List ℕ
 stream_text messages = flat_map message_text messages
 

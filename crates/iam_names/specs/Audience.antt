@@ -11,9 +11,11 @@ use Rattle.iam_names.specs.declared.audience.Audience.{Audience}
 abbrev pub is_audience : Audience → Bool
 is_audience name = is_pool_name name.pool && is_id name.provider
 
+-- the text that names the provider
 abbrev pub audience_text : Audience → List ℕ
 audience_text name = codes "//" ++ (pool_path name.pool ++ (codes "/providers/" ++ name.provider))
 
+-- the provider that a text names
 abbrev pub audience_of : List ℕ → Option Audience
 audience_of text =
     (after (codes "//") text >>= path_parts)

@@ -6,6 +6,7 @@ use Rattle.std.specs.Str.{bytes_eq}
 use Rattle.base_types.specs.Forms.{has_size, is_visible}
 use Rattle.iam_names.specs.Cuts.{after, cut_at}
 
+-- 0 to 9
 abbrev pub is_digit : ℕ → Bool
 is_digit byte = nat_le 48 byte && nat_le byte 57
 
@@ -82,6 +83,7 @@ is_permission text = nat_le (length text) 128 && are_three_words text
 abbrev pub is_role_byte : ℕ → Bool
 is_role_byte byte = is_word_byte byte || ((byte == 46) || (byte == 95))
 
+-- what stands behind roles/ in a role
 abbrev pub is_role_id : List ℕ → Bool
 is_role_id text = has_size 1 64 text && list_all is_role_byte text
 
@@ -93,6 +95,7 @@ is_role text = passes is_role_id (after (codes "roles/") text)
 abbrev pub is_scope_word : List ℕ → Bool
 is_scope_word text = has_size 1 128 text && list_all is_plain_byte text
 
+-- a to z, a digit or an underscore
 abbrev pub is_attribute_byte : ℕ → Bool
 is_attribute_byte byte = (is_lower byte || is_digit byte) || (byte == 95)
 

@@ -32,7 +32,8 @@ account_in (OfAccount account) = Some account
 abbrev pub names_who : Member → Who → Bool
 names_who (Principal pool subject) who = passes (λ (identity : Identity). bytes_eq subject identity.subject) (identity_in pool who)
 names_who (Group pool group) who = passes (λ (identity : Identity). list_any (bytes_eq group) identity.groups) (identity_in pool who)
-names_who (Attribute pool name value) who = passes (λ (identity : Identity). passes (bytes_eq value) (value_at name identity.attributes)) (identity_in pool who)
+names_who (Attribute pool name value) who =
+    passes (λ (identity : Identity). passes (bytes_eq value) (value_at name identity.attributes)) (identity_in pool who)
 names_who (Pool pool) who = is_some (identity_in pool who)
 names_who (Account account) who = passes (bytes_eq account) (account_in who)
 
@@ -44,6 +45,7 @@ is_member (Attribute pool name value) = is_pool_name pool && (is_attribute_name 
 is_member (Pool pool) = is_pool_name pool
 is_member (Account account) = is_account account
 
+-- the text that says the member
 abbrev pub member_text : Member → List ℕ
 member_text (Principal pool subject) = codes "principal://" ++ (pool_path pool ++ (codes "/subject/" ++ subject))
 member_text (Group pool group) = codes "principalSet://" ++ (pool_path pool ++ (codes "/group/" ++ group))
@@ -59,6 +61,7 @@ principal_of text =
     >>= (λ pool. subject_at path.2
     >>= (λ subject. Some (Principal pool subject))))
 
+-- the set of a pool that a text NAME/VALUE says
 abbrev pub attribute_of : PoolName → List ℕ → Option Member
 attribute_of pool text =
     cut_at 47 text

@@ -18,6 +18,7 @@ is_pool_name name = is_project name.project && is_id name.pool
 abbrev pub pool_text : PoolName → List ℕ
 pool_text name = name.project ++ (codes "/" ++ name.pool)
 
+-- the pool that a whole text names
 abbrev pub pool_of_text : List ℕ → Option PoolName
 pool_of_text text = cut_at 47 text >>= (λ parts. pool_of parts.0 parts.1)
 
@@ -25,5 +26,6 @@ pool_of_text text = cut_at 47 text >>= (λ parts. pool_of parts.0 parts.1)
 abbrev pub pool_path : PoolName → List ℕ
 pool_path name = codes "iam.googleapis.com/projects/" ++ (name.project ++ (codes "/locations/global/workloadIdentityPools/" ++ name.pool))
 
+-- whether two names are of one pool
 abbrev pub same_pool : PoolName → PoolName → Bool
 same_pool a b = bytes_eq a.project b.project && bytes_eq a.pool b.pool

@@ -80,7 +80,8 @@ impl Form for ResourceForm {
     }
 }
 
-/// A resource: `//HOST` and any number of `/SEGMENT`, at most 1,024 bytes. A host has `a` to `z`, digits, `.` and `-`; a segment has visible ASCII without `/`, `"` and `\\`; none is empty.
+/// A resource: `//HOST` and any number of `/SEGMENT`, at most 1,024 bytes. A host has `a` to `z`, digits, `.` and `-`; a segment has
+/// visible ASCII without `/`, `"` and `\\`; none is empty.
 pub type Resource = Name<ResourceForm>;
 
 /// The form of a permission.

@@ -5,3 +5,4 @@ pub mod Disk
 pub mod Output
 pub mod Replay
 pub mod Routes
+pub mod Whole

@@ -21,6 +21,7 @@ mod source;
 mod stdin_source;
 mod stdout_sink;
 mod system_clock;
+mod whole;
 mod written;
 
 pub use carry::{Carry, INPUT_LIMIT, More};
@@ -41,4 +42,5 @@ pub use source::Source;
 pub use stdin_source::StdinSource;
 pub use stdout_sink::StdoutSink;
 pub use system_clock::SystemClock;
+pub use whole::{ReadEnd, read_whole};
 pub use written::write_text;

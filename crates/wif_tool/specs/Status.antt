@@ -3,6 +3,7 @@ use Rattle.std.specs.Prelude.{◌≡◌, ◌≢◌, ◌≤◌, ◌<◌, ◌⊎�
 use Rattle.std.specs.List.{AllByRecursion, concat}
 use Rattle.std.specs.Io.KnownBytes.{Consumes, Appends, IsAtEnd}
 use Rattle.wif_base.specs.Carried.{input_limit}
+use Rattle.wif_base.specs.Whole.{IsReadWhole}
 use Rattle.wif_base.specs.Disk.{Leaves, LeavesNow, Told}
 use Rattle.cel_lines.specs.Lines.{AreLines, LinesBegin, IsTooLong}
 use Rattle.cel_lines.specs.Run.{LinesRun}
@@ -29,10 +30,9 @@ use Rattle.wif_tool.specs.declared.command.Command.TheVariants.{Cel}
 
 -- ---- the configuration
 
--- The configuration's bytes were read to their end, or past the limit.
-pub record ConfigRead (left left' : Option (List ℕ)) (bytes : List ℕ) : Type 0 where
-  pub source : Consumes left left' bytes
-  pub whole : IsAtEnd left' ⊎ (config_limit < length bytes)
+-- the configuration's bytes were read to their end, or past the limit
+abbrev pub ConfigRead : Option (List ℕ) → Option (List ℕ) → List ℕ → Type 0
+ConfigRead left left' bytes = IsReadWhole config_limit left left' bytes
 
 -- What was read is this configuration.
 pub record Configured (left left' : Option (List ℕ)) (config : Config) : Type 0 where

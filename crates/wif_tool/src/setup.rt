@@ -8,7 +8,7 @@ ghost use Rattle.wif_tool.specs.Status.{ConfigRead, Configured, NotConfigured};
 use service_config::{Config, ConfigError, read_service_config};
 use std::alloc::{AllocError, Global};
 use sts_core::{Setup, set_up};
-use wif_base::{Failed, Source};
+use wif_base::{ReadEnd, Source, read_whole};
 
 const CONFIG_LIMIT: usize = 65536;
 
@@ -58,18 +58,9 @@ fn read_limited<G: Source>(alloc: Global, source: &mut G) -> Result<Vec<u8>, Set
     ensures failed { IsErrOf result SetupEnd.Failed → Rose (G.faults source.old) (G.faults source.new) }
     ensures count { G.faults source.old ≤ G.faults source.new }
 {
-    let mut bytes = Vec::new(alloc);
-    let mut piece = [0u8; 4096];
-    'pieces: while bytes.len() <= CONFIG_LIMIT {
-        match source.read(&mut piece) {
-            Ok(0) => return Ok(bytes),
-            Ok(count) => {
-                if bytes.extend_from_slice(&piece[..count]).is_err() {
-                    return Err(SetupEnd::Memory);
-                }
-            }
-            Err(Failed) => return Err(SetupEnd::Failed),
-        }
+    match read_whole(alloc, source, CONFIG_LIMIT) {
+        Ok(bytes) => Ok(bytes),
+        Err(ReadEnd::Failed) => Err(SetupEnd::Failed),
+        Err(ReadEnd::Memory) => Err(SetupEnd::Memory),
     }
-    Ok(bytes)
 }
