@@ -1,4 +1,5 @@
 pub mod Bodies
+pub mod Files
 pub mod Heads
 pub mod Parameters
 pub mod Texts

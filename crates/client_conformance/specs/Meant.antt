@@ -1,5 +1,5 @@
 -- What a client means by its requests, in the service's words.
-use Rattle.std.specs.Prelude.{◌≡◌, ◌≤◌, ℕ, List, [], ◌∷◌, length, codes, true, Option, None, Some, option_and_then}
+use Rattle.std.specs.Prelude.{◌≡◌, ◌≤◌, ℕ, List, [], ◌∷◌, length, codes, true, Option, None, Some, option_and_then, IfSome}
 use Rattle.base_types.specs.Rules.{first_of}
 use Rattle.serde_json.specs.Data.{Data, string, object, no_members, member}
 use Rattle.json_text.specs.Document.{texts_data}
@@ -42,6 +42,11 @@ every_permission = codes "https://www.googleapis.com/auth/cloud-platform"
 pub record IsNamed (config : ClientConfig) : Type 0 where
   pub audience : is_audience config.audience ≡ true
   pub token_type : is_token_type config.token_type ≡ true
+
+-- The URLs of the services are of their form.
+pub record HasUrls (config : ClientConfig) : Type 0 where
+  pub token : IsUrl config.token
+  pub account : IfSome config.account IsUrl
 
 -- The form breaks no rule and has six parameters: the exchange of this subject token, of the client's type and provider, for an access
 -- token of every permission.

@@ -1,14 +1,20 @@
-ghost use Rattle.std.specs.Prelude.{◌≡◌, ◌≤◌, ◌++◌, None, Some, ℕ, List, length, true};
+ghost use Rattle.std.specs.Prelude.{◌≡◌, ◌≤◌, ◌++◌, None, Some, Ok, ℕ, List, length, true};
 ghost use Rattle.exchange_form.specs.Forms.{form_of, object_of};
 ghost use Rattle.http_front.specs.Messages.{Message, IsMessage, message_text, Asks};
 ghost use Rattle.http_front.specs.declared.incoming.Incoming.{Incoming};
+ghost use Rattle.client_proto.specs.ClientFile.{client_of};
 ghost use Rattle.client_proto.specs.Replies.{is_token};
 ghost use Rattle.client_proto.specs.Requests.{account_body, account_text, exchange_form, exchange_text};
 ghost use Rattle.client_proto.specs.Subjects.{is_subject};
 ghost use Rattle.client_proto.specs.declared.config.ClientConfig.{ClientConfig};
 ghost use Rattle.client_proto.specs.declared.config.Url.{Url};
 ghost use Rattle.wif_base.specs.declared.route.Route.TheVariants.{Token, Generate};
-ghost use Rattle.client_conformance.specs.Meant.{IsNamed, IsRequest, LeadsTo, SaysExchange, account_asked, last_request};
+ghost use Rattle.client_conformance.specs.Meant.{HasUrls, IsNamed, IsRequest, LeadsTo, SaysExchange, account_asked, last_request};
+
+/// A law: a client that a file says has a provider and a type of their forms, and its URLs are of theirs.
+pub fn a_client_file_has_its_forms()
+    ensures { (bytes : List ℕ) (config : ClientConfig) → client_of bytes ≡ Ok config → IsNamed config × HasUrls config }
+{}
 
 /// A law: where a client's token URL leads to the token exchange and the form has at most 65,536 bytes, the bytes that the client sends for
 /// a subject token are one request of the service: the exchange, without a bearer, and the connection ends behind it. Its body is a form

@@ -5,5 +5,6 @@
 mod laws;
 
 pub use laws::{
-    a_request_is_read_as_it_was_sent, an_account_is_asked_as_meant, an_exchange_is_asked_as_meant,
+    a_client_file_has_its_forms, a_request_is_read_as_it_was_sent, an_account_is_asked_as_meant,
+    an_exchange_is_asked_as_meant,
 };
