@@ -1,4 +1,5 @@
 pub mod Failing
+pub mod Sent
 pub mod Heads
 pub mod Passing
 pub mod Serving
