@@ -1,11 +1,12 @@
 """Faults of a journal's file, tried on the real program over real files.
 
-usage: python3 tools/journal_faults.py PROGRAM [kills] [bytes] [full]
+usage: python3 tools/journal_faults.py PROGRAM [kills] [bytes] [full] [limits]
 
-PROGRAM is a built `sts`. Without a further word all three are tried:
+PROGRAM is a built `sts`. Without a further word all four are tried:
 kills    the program is killed under load at 200 random moments; the file is then read by a reader apart from the program, and opened again
 bytes    a small journal is cut at each place and each bit of each byte is flipped; what the program says of it is compared with a model
 full     the journal stands on a small file system that fills up (a tmpfs, so it needs the right to mount one)
+limits   the longest text of an entry and one byte more, the longest file and one byte more, and the last record that fits and one byte more
 It ends at the first thing that is wrong, with status 1.
 """
 import json
@@ -23,6 +24,7 @@ from signing import AT, frame
 
 HERE = os.path.dirname(os.path.dirname(os.path.abspath(__file__)))
 CONFIG = os.path.join(HERE, 'crates', 'wif_tool', 'data', 'config.json')
+FIRST = os.path.join(HERE, 'examples', 'first', 'config.json')
 ROUNDS = 200
 
 
@@ -218,14 +220,98 @@ def full(program, folder):
     print(f'full: status 5 behind {stood} entries, each of them found, and the journal goes on elsewhere')
 
 
+# Texts and files at their limits.
+
+def sized(room, count, least, most):
+    """So many sizes from the least to the most that add up to the room."""
+    each, more = divmod(room, count)
+    sizes = [each + (number < more) for number in range(count)]
+    if not least <= min(sizes) <= max(sizes) <= most:
+        fail('no sizes for', room)
+    return sizes
+
+
+def scope_of(size):
+    """A command whose text has so many bytes, from some 400 to some 31,000."""
+    count = max(1, size // 120)
+    bare = {'kind': 'scope', 'scope': 'fill', 'permissions': ['load.items.'] * count}
+    sizes = sized(size - len(journals.text_of(bare)), count, 1, 117)
+    return {**bare, 'permissions': ['load.items.' + 'a' * one for one in sizes]}
+
+
+def policy_of(size):
+    """A command whose text has so many bytes, some 262,144."""
+    member = 'serviceAccount:@b.iam.gserviceaccount.com'
+    bare = {'kind': 'policy', 'resource': '//fill', 'bindings': [{'role': 'roles/a.b', 'members': [member] * 64}] * 64}
+    sizes = sized(size - len(journals.text_of(bare)), 64 * 64, 1, 63)
+    members = ['serviceAccount:' + 'a' * one + member[15:] for one in sizes]
+    return {**bare, 'bindings': [{'role': 'roles/a.b', 'members': members[at:at + 64]} for at in range(0, 64 * 64, 64)]}
+
+
+def filled(texts, size):
+    """A file of these texts that has so many bytes, with others in front."""
+    room, one = size - len(journals.file_of(texts)), journals.text_of(scope_of(30_000))
+    count = room // (5 + len(one)) - 1
+    rest = room - count * (5 + len(one))
+    return journals.file_of([one] * count + [journals.text_of(scope_of(half - 5)) for half in (rest // 2, rest - rest // 2)] + texts)
+
+
+def opened(program, journal, data, wanted):
+    write(journal, data)
+    was = run(program, 'script', FIRST, journal)
+    if was != wanted:
+        fail('of a file of', len(data), 'bytes the program says', was, 'and should say', wanted)
+
+
+def refused(at, rule):
+    return 6, f'fault 6 at {at} rule {rule}\n'.encode()
+
+
+def recorded_last(program, journal, asking, code):
+    """What is asked finds room where its record makes the file as long as may be, and none where it lacks a byte."""
+    write(journal, journals.file_of([]))
+    if [status for status, _ in whole_replies(run(program, 'script', FIRST, journal, data=asking)[1])] != [200]:
+        fail('nothing is recorded')
+    size = 5 + len(journals.read(read(journal))[0][0])
+    for lacks in (0, 1):
+        data = filled([], journals.LONGEST_JOURNAL - size + lacks)
+        write(journal, data)
+        status, written = run(program, 'script', FIRST, journal, data=asking * 2)
+        first, second = whole_replies(written)
+        for reply in [second] if lacks == 0 else [first, second]:
+            if reply[0] != 503 or code not in reply[1]:
+                fail('without room the reply is', reply)
+        if status != 0 or (first[0] == 200) != (lacks == 0) or len(read(journal)) != len(data) + size * (lacks == 0):
+            fail('with', lacks, 'bytes too few the status is', status, 'and the replies are', first, second)
+        if run(program, 'script', FIRST, journal) != (0, b''):
+            fail('the full file does not open again')
+
+
+def limits(program, folder):
+    journal, most = os.path.join(folder, 'journal'), journals.LONGEST_TEXT
+    opened(program, journal, journals.file_of([journals.text_of(policy_of(most))]), (0, b''))
+    opened(program, journal, journals.file_of([journals.text_of(policy_of(most + 1))]), refused(8, 'J3'))
+    last = journals.text_of(scope_of(1000))
+    opened(program, journal, filled([last], journals.LONGEST_JOURNAL), (0, b''))
+    opened(program, journal, filled([last], journals.LONGEST_JOURNAL + 1), refused(journals.LONGEST_JOURNAL + 1 - 1 - 5 - len(last), 'J5'))
+    with open(FIRST) as source:
+        admin = json.load(source)['admin']
+    recorded_last(program, journal, frame('/v1/admin', admin, AT, journals.text_of(scope_of(1000))), b'A7')
+    with open(os.path.join(HERE, 'examples', 'first', 'script'), 'rb') as source:
+        head, rest = source.read().split(b'\n', 1)
+    recorded_last(program, journal, head + b'\n' + rest[:int(head.split()[-1]) + 1], b'E26')
+    print(f'limits: a text of {most:,} bytes opens and one of a byte more is refused (J3), a file of {journals.LONGEST_JOURNAL:,} bytes opens and one of a byte more',
+          'is refused (J5), and the last command and the last exchange that fit are recorded (A7, E26)')
+
+
 def main(program, words):
-    for word, tried in (('kills', kills), ('bytes', all_bytes), ('full', full)):
+    for word, tried in (('kills', kills), ('bytes', all_bytes), ('full', full), ('limits', limits)):
         if not words or word in words:
             with tempfile.TemporaryDirectory() as folder:
                 tried(os.path.abspath(program), folder)
 
 
 if __name__ == '__main__':
-    if len(sys.argv) < 2 or not set(sys.argv[2:]) <= {'kills', 'bytes', 'full'}:
+    if len(sys.argv) < 2 or not set(sys.argv[2:]) <= {'kills', 'bytes', 'full', 'limits'}:
         sys.exit(__doc__)
     main(sys.argv[1], sys.argv[2:])
