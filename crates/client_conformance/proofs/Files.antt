@@ -86,8 +86,10 @@ sources_are d at h =
     bound _ (needed_url TokenUrl (get (codes "token_url") d)) at h (λ token token_is h.
     bound _ (needed (Field CredentialSource) (option_and_then source_of (get (codes "credential_source") d))) at h (λ source source_is h.
     bound _ (optional_url ImpersonationUrl (get (codes "service_account_impersonation_url") d)) at h (λ account account_is h.
-    subst (λ s. AreUrls s.token s.account) (same_Ok _ at h) (needed_is TokenUrl (get (codes "token_url") d) token token_is,
-    optional_is ImpersonationUrl (get (codes "service_account_impersonation_url") d) account account_is))))
+    subst (λ s. AreUrls s.token s.account) (same_Ok _ at h) (
+      needed_is TokenUrl (get (codes "token_url") d) token token_is,
+      optional_is ImpersonationUrl (get (codes "service_account_impersonation_url") d) account account_is,
+    ))))
 
 -- ---- the file
 

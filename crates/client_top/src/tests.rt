@@ -1,18 +1,12 @@
-ghost use Rattle.std.specs.Prelude.{◌≡◌, [], ◌∷◌, IfOk};
-
-use crate::{Gate, Outcome, run_workers};
+use crate::{Gate, client_run};
 use base_types::Bytes;
 use client_link::ScriptLink;
-use client_proto::{ClientConfig, read_config};
-use renewer::Flight;
-use shared_renewer::Renewer;
 use std::alloc::{AllocError, Global};
 use std::sync::Wait;
 use std::sync::atomic::{AtomicU64, Ordering};
 use std::test::Fail;
 use std::thread::Threads;
-
-const MOMENT: u64 = 1_700_000_000;
+use wif_base::{MemSink, MemSource};
 
 const FILE: &[u8] = br#"{
 "type":"external_account",
@@ -73,74 +67,59 @@ fn replies(alloc: Global) -> Result<Vec<Bytes>, AllocError> {
     Ok(replies)
 }
 
-fn client(alloc: Global) -> Result<ClientConfig, AllocError> {
-    match read_config(alloc, FILE) {
-        Ok(config) => Ok(config),
-        Err(_) => Err(AllocError),
+const MOMENTS: &[u8] = b"0 1700000000\n1 1700000000\n";
+
+const TOLD: &[u8] =
+    b"0 1700000000 lease 0 1700000900\n1 1700000000 lease 0 1700000900\nrenewal 0 asked 1700000000 exp 1700000900 token t\n";
+
+fn words_of(alloc: Global, line: &str) -> Result<Vec<String>, AllocError> {
+    let mut words = Vec::new(alloc);
+    for word in line.split_ascii_whitespace() {
+        words.push(word.to_owned(alloc)?)?;
     }
+    Ok(words)
 }
 
-fn flight(alloc: Global) -> Result<Flight<ScriptLink>, AllocError> {
-    let replies = replies(alloc)?;
-    let link = ScriptLink::new(alloc, replies, Vec::new(alloc));
-    match client(alloc) {
-        Ok(config) => Ok(Flight::new(alloc, link, config, 60)),
-        Err(AllocError) => {
-            drop(link);
-            Err(AllocError)
-        }
-    }
+fn source_of(alloc: Global, bytes: &[u8]) -> Result<MemSource, AllocError> {
+    Ok(MemSource::new(bytes.to_vec(alloc)?, Vec::new(alloc)))
 }
 
-fn one_moment(alloc: Global) -> Result<Vec<u64>, AllocError>
-    ensures { IfOk result (λ moments. moments.items ≡ MOMENT ∷ []) }
-{
-    let mut moments = Vec::new(alloc);
-    moments.push(MOMENT)?;
-    Ok(moments)
+fn sink(alloc: Global) -> Result<MemSink, AllocError> {
+    let mut room = Vec::new(alloc);
+    room.reserve(4096)?;
+    Ok(MemSink::new(room, Vec::new(alloc)))
 }
 
-// What two workers find that lease at one moment each.
-fn found_by_two<R: Threads + Wait + Sync>(
+// The status of a run of two workers, and whether they were told of two leases by one renewal.
+fn status_of_two<R: Threads + Wait + Sync>(
     rt: &R,
     alloc: Global,
     gate: &Meeting,
-) -> Result<Vec<Vec<Outcome>>, AllocError> {
-    let moments = [one_moment(alloc)?, one_moment(alloc)?];
-    let flight = flight(alloc)?;
-    match Renewer::new(alloc, flight, 3) {
-        Ok((renewer, mut pass)) => {
-            let found = run_workers(rt, alloc, &renewer, &mut pass, &moments, gate);
-            drop(pass);
-            drop(renewer);
-            found
-        }
-        Err(fault) => {
-            drop(fault);
-            Err(AllocError)
-        }
-    }
-}
-
-fn is_one_lease(outcomes: &[Outcome]) -> bool {
-    let lease = Outcome::Lease {
-        index: 0,
-        exp: MOMENT + 900,
-    };
-    outcomes.len() == 1 && outcomes[0] == lease
-}
-
-fn are_two_leases(lists: &[Vec<Outcome>]) -> bool {
-    lists.len() == 2 && is_one_lease(lists[0].as_slice()) && is_one_lease(lists[1].as_slice())
+) -> Result<(u8, bool), AllocError> {
+    let words = words_of(alloc, "run client.json 2 60")?;
+    let mut config = source_of(alloc, FILE)?;
+    let mut input = source_of(alloc, MOMENTS)?;
+    let mut output = sink(alloc)?;
+    let mut link = ScriptLink::new(alloc, replies(alloc)?, Vec::new(alloc));
+    let status = client_run(
+        rt,
+        alloc,
+        words.as_slice(),
+        &mut config,
+        &mut input,
+        &mut output,
+        &mut link,
+        gate,
+    );
+    Ok((status, output.bytes.as_slice() == TOLD))
 }
 
 #[test]
 fn workers_stand_at_the_gate_at_once(rt: HostRuntime) -> Result<(), Fail> {
     let gate = Meeting::new();
-    let lists = found_by_two(&rt, rt.alloc(), &gate)?;
-    let found = are_two_leases(lists.as_slice());
-    drop(lists);
-    assert!(rt; found);
+    let (status, told) = status_of_two(&rt, rt.alloc(), &gate)?;
+    assert_eq!(rt; status, 0);
+    assert!(rt; told);
     assert!(rt; gate.was_held());
     Ok(())
 }

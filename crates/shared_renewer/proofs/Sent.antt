@@ -28,17 +28,23 @@ use Rattle.std.specs.contracts.impls.GlobalAllocator.TheImpl as heap_impl
 module _ (L : RattleType) (g : Ghosts L.Denot) (l : IsSend L) where
   client_send : IsSend (flight.the_row L g)
   client_send = view_send (inside_flight.the_row L g) _ _ _ _ (declared_send (inside_flight.the_type L g) (
-      search (sendable, l), (config.the_send, (search sendable, (search (sendable, crosses, renewal.the_send) depth 6, (search sendable depth 8, tt))))))
+    search (sendable, l),
+    (config.the_send, (search sendable, (search (sendable, crosses, renewal.the_send) depth 6, (search sendable depth 8, tt)))),
+  ))
 
   place_send : IsSend (seat_type.the_row (flight.the_row L g) view.the_row)
   place_send = search (sendable, seat.the_send, client_send) depth 3
 
   pub pass_send : IsSend (pass.the_row L g)
   pass_send = view_send (inside_pass.the_row L g) _ _ _ _ (declared_send (inside_pass.the_type L g) (
-      place_send, (search (sendable, lease.the_send) depth 8, (search sendable, (search sendable, tt)))))
+    place_send,
+    (search (sendable, lease.the_send) depth 8, (search sendable, (search sendable, tt))),
+  ))
 
   pub renewer_sync : IsSync (renewer.the_row L g)
   renewer_sync = view_sync (inside_renewer.the_row L g) _ _ _ _ (declared_sync (inside_renewer.the_type L g) (
-      as_row_sync (table_type.the_field (flight.the_row L g) view.the_row (start.the_row L g) (shares.the_row L) heap_type.the_row (rule.ghosts L g rule.no_dict) heap_impl.ghosts)
-      (table.the_field_sync (flight.the_row L g) view.the_row (start.the_row L g) (shares.the_row L) heap_type.the_row (rule.ghosts L g rule.no_dict) heap_impl.ghosts
-      client_send heap.the_send heap.the_sync (search crosses)), tt))
+    as_row_sync (table_type.the_field (flight.the_row L g) view.the_row (start.the_row L g) (shares.the_row L) heap_type.the_row (rule.ghosts L g rule.no_dict) heap_impl.ghosts)
+        (table.the_field_sync (flight.the_row L g) view.the_row (start.the_row L g) (shares.the_row L) heap_type.the_row (rule.ghosts L g rule.no_dict) heap_impl.ghosts
+        client_send heap.the_send heap.the_sync (search crosses)),
+    tt,
+  ))
