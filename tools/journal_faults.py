@@ -289,8 +289,9 @@ def recorded_last(program, journal, asking, code):
 
 def limits(program, folder):
     journal, most = os.path.join(folder, 'journal'), journals.LONGEST_TEXT
-    opened(program, journal, journals.file_of([journals.text_of(policy_of(most))]), (0, b''))
-    opened(program, journal, journals.file_of([journals.text_of(policy_of(most + 1))]), refused(8, 'J3'))
+    role = journals.command_text(SMALL[1])
+    opened(program, journal, journals.file_of([role, journals.text_of(policy_of(most))]), (0, b''))
+    opened(program, journal, journals.file_of([role, journals.text_of(policy_of(most + 1))]), refused(8 + 5 + len(role), 'J3'))
     last = journals.text_of(scope_of(1000))
     opened(program, journal, filled([last], journals.LONGEST_JOURNAL), (0, b''))
     opened(program, journal, filled([last], journals.LONGEST_JOURNAL + 1), refused(journals.LONGEST_JOURNAL + 1 - 1 - 5 - len(last), 'J5'))
