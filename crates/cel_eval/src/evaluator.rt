@@ -1,15 +1,14 @@
-ghost use Rattle.std.specs.Prelude.{◌≡◌, map, option_map, Option, Err, Ok, IfSome};
-ghost use Rattle.std.specs.Option.{option_copied};
+ghost use Rattle.std.specs.Prelude.{◌≡◌, map, option_map, Option, Err, Ok, IfSome, IfOk, IfErr};
 ghost use Rattle.cel_builtins.specs.Outcomes.{Gives, in_order, weighed as weighed_value};
 ghost use Rattle.cel_eval.specs.Denotation.{tested, said, both as both_of, either as either_of, denotation, pair_denotation, with_item, each, call as call_of, binary as binary_of, chosen, over as over_of, test_of, tests, all_of, some_of, kept_of, taken_of, gathered, is_yes, passes as passes_test, one_of};
 ghost use Rattle.cel_eval.specs.Scopes.{env_of};
 ghost use Rattle.cel_eval.specs.Errors.{applied_to, selected_from, present_in, indexed_by, strict_on, member_on, called_on};
 
 use crate::operators::{
-    Logic, called, earlier, entry_at, indexed, logic_of, member_called, presence, put_pairs,
+    Logic, called, earlier, field_of, indexed, logic_of, member_called, presence, put_pairs,
     range_of, selected, strict, truth, without_error,
 };
-use crate::scope::{Scope, enter, find, leave, named};
+use crate::scope::{Scope, enter, given, leave, named};
 use base_types::{Boxed, Items, Text};
 use cel_builtins::{Function, apply_one, weighed};
 use cel_values::{BinaryOp, Env, EvalError, EvalStop, Expr, MacroKind, MapPair, Value, copy};
@@ -26,15 +25,17 @@ pub fn eval(alloc: Global, expr: &Expr, env: &Env) -> Result<Value, EvalStop>
     eval_in(alloc, expr, &mut scope)
 }
 
-// The value of a name or of a path of selections from one, where it is there: it isn't copied.
-fn seen<'s>(expr: &Expr, scope: &'s Scope<'_>) -> Option<&'s Value>
-    ensures { IfSome (option_copied result) (λ value. denotation expr.now (env_of scope.now) ≡ Ok value) }
+// The value of a name or of a path of selections from one, which isn't copied, or its error. None where the path begins
+// with no name.
+fn seen<'s>(expr: &Expr, scope: &'s Scope<'_>) -> Option<Result<&'s Value, EvalError>>
+    ensures there { IfSome result (λ seen. IfOk seen (λ value. denotation expr.now (env_of scope.now) ≡ Ok value.now)) }
+    ensures fails { IfSome result (λ seen. IfErr seen (λ error. denotation expr.now (env_of scope.now) ≡ Err error)) }
 {
     match expr {
-        Expr::Name(name) => find(name.as_str(), scope),
+        Expr::Name(name) => Some(given(name.as_str(), scope)),
         Expr::Select(e, field) => match seen(e.get(), scope)? {
-            Value::Map(entries) => entry_at(field.as_str(), entries.as_slice()),
-            _ => None,
+            Ok(value) => Some(field_of(value, field.as_str())),
+            Err(error) => Some(Err(error)),
         },
         _ => None,
     }
@@ -500,13 +501,16 @@ fn eval_select(
     ensures value { Gives result (selected_from field.now (denotation e.now (env_of scope.old))) }
     ensures scope { scope.new ≡ scope.old }
 {
-    if let Some(value) = seen(e, scope) {
-        return selected(alloc, field, value);
+    match seen(e, scope) {
+        Some(Ok(value)) => selected(alloc, field, value),
+        Some(Err(error)) => Err(EvalStop::Error(error)),
+        None => {
+            let value = eval_path(alloc, e, scope)?;
+            let outcome = selected(alloc, field, &value);
+            drop(value);
+            outcome
+        }
     }
-    let value = eval_in(alloc, e, scope)?;
-    let outcome = selected(alloc, field, &value);
-    drop(value);
-    outcome
 }
 
 #[cycle(eval)]
@@ -514,11 +518,31 @@ fn eval_has(alloc: Global, e: &Expr, scope: &mut Scope<'_>, field: &str) -> Resu
     ensures value { Gives result (present_in field.now (denotation e.now (env_of scope.old))) }
     ensures scope { scope.new ≡ scope.old }
 {
-    if let Some(value) = seen(e, scope) {
-        return presence(field, value);
+    match seen(e, scope) {
+        Some(Ok(value)) => presence(field, value),
+        Some(Err(error)) => Err(EvalStop::Error(error)),
+        None => {
+            let value = eval_path(alloc, e, scope)?;
+            let outcome = presence(field, &value);
+            drop(value);
+            outcome
+        }
     }
-    let value = eval_in(alloc, e, scope)?;
-    let outcome = presence(field, &value);
-    drop(value);
-    outcome
+}
+
+// The value of a path of selections that begins with no name: each part is made once.
+#[cycle(eval)]
+fn eval_path(alloc: Global, e: &Expr, scope: &mut Scope<'_>) -> Result<Value, EvalStop>
+    ensures value { Gives result (denotation e.now (env_of scope.old)) }
+    ensures scope { scope.new ≡ scope.old }
+{
+    match e {
+        Expr::Select(whole, field) => {
+            let value = eval_path(alloc, whole.get(), scope)?;
+            let outcome = selected(alloc, field.as_str(), &value);
+            drop(value);
+            outcome
+        }
+        _ => eval_in(alloc, e, scope),
+    }
 }

@@ -1,5 +1,5 @@
 //! What operators do with values that are there.
-ghost use Rattle.std.specs.Prelude.{◌≡◌, ◌≤◌, length, ◌∷◌, [], IfOk, map, true};
+ghost use Rattle.std.specs.Prelude.{◌≡◌, ◌≤◌, length, ◌∷◌, [], IfOk, IfErr, Ok, Err, map, true};
 ghost use Rattle.std.specs.List.{insert};
 ghost use Rattle.std.specs.Option.{option_copied};
 ghost use Rattle.cel_values.specs.declared.value.Value.{out-Value, Value as Datum};
@@ -46,7 +46,7 @@ pub fn truth(value: &Value) -> Result<bool, EvalStop>
 }
 
 /// The value of a key.
-pub fn entry_at<'s>(key: &str, entries: &'s [MapEntry]) -> Option<&'s Value>
+fn entry_at<'s>(key: &str, entries: &'s [MapEntry]) -> Option<&'s Value>
     ensures { option_copied result ≡ entry_in key.now entries.now }
 {
     for entry in entries {
@@ -63,6 +63,17 @@ fn key_value(alloc: Global, key: &str, entries: &[MapEntry]) -> Result<Value, Ev
     match entry_at(key, entries) {
         Some(value) => Ok(copy(alloc, value)?),
         None => Err(EvalStop::Error(EvalError::NoKey)),
+    }
+}
+
+/// The value that a selection takes.
+pub fn field_of<'s>(value: &'s Value, field: &str) -> Result<&'s Value, EvalError>
+    ensures there { IfOk result (λ found. selected_in field.now (out-Value value.now) ≡ Ok found.now) }
+    ensures fails { IfErr result (λ error. selected_in field.now (out-Value value.now) ≡ Err error) }
+{
+    match value {
+        Value::Map(entries) => entry_at(field, entries.as_slice()).ok_or(EvalError::NoKey),
+        _ => Err(EvalError::NoOverload),
     }
 }
 

@@ -1,4 +1,4 @@
-ghost use Rattle.std.specs.Prelude.{◌≡◌, ◌∷◌, ◌++◌, [], OnOk, OnErr, List};
+ghost use Rattle.std.specs.Prelude.{◌≡◌, ◌∷◌, ◌++◌, [], IfOk, IfErr, Ok, Err, OnOk, OnErr, List};
 ghost use Rattle.std.specs.Option.{option_copied};
 ghost use Rattle.cel_values.specs.declared.env.Binding.{Binding as Pair};
 ghost use Rattle.cel_builtins.specs.Outcomes.{Gives};
@@ -42,6 +42,14 @@ fn find_given<'s>(name: &str, given: &'s [Binding]) -> Option<&'s Value>
         }
     }
     None
+}
+
+/// The value of a name, or its error.
+pub fn given<'s>(name: &str, scope: &'s Scope<'_>) -> Result<&'s Value, EvalError>
+    ensures there { IfOk result (λ value. named_in name.now (env_of scope.now) ≡ Ok value.now) }
+    ensures fails { IfErr result (λ error. named_in name.now (env_of scope.now) ≡ Err error) }
+{
+    find(name, scope).ok_or(EvalError::Unbound)
 }
 
 /// The value of a name, once more.
