@@ -38,7 +38,7 @@ module _ (key header payload : List ℕ) (is_header : IsBytes header) (is_payloa
       header (base64url_bytes-base64url header is_header) payload (base64url_bytes-base64url payload is_payload)
       mac (base64url_bytes-base64url mac (IsBytes-hmac_of key _)) good ((bytes_eq-Decides mac mac).1 refl)
 
-header_is_good : first_header_fault (document signed_header) ≡ None
+pub header_is_good : first_header_fault (document signed_header) ≡ None
 unfolding serde_json_on_literals is_utf8 chars
 header_is_good = refl
 

@@ -1,12 +1,15 @@
-ghost use Rattle.std.specs.Prelude.{◌≡◌, ◌≤◌, ◌∷◌, ◌++◌, length, IfOk, OnOk};
+ghost use Rattle.std.specs.Prelude.{◌≡◌, ◌≤◌, ◌<◌, ◌^◌, ◌∷◌, ◌++◌, ℕ, List, length, IfOk, OnOk};
 ghost use Rattle.std.specs.String.{string_bytes};
+ghost use Rattle.base64.specs.Rfc4648.{unpadded_len};
 ghost use Rattle.hmac_jws.specs.Compact.{base64url, compact, dot};
 
 use crate::mac::hmac;
 use base64::engine::general_purpose::URL_SAFE_NO_PAD;
 use std::alloc::{AllocError, Global};
 
-const HEADER: &str = "{\"alg\":\"HS256\",\"typ\":\"JWT\"}";
+pub(crate) const HEADER: &str = "{\"alg\":\"HS256\",\"typ\":\"JWT\"}";
+
+const MAC_LENGTH: usize = 32;
 
 fn push_part(text: &mut String, bytes: &[u8]) -> Result<(), AllocError>
     ensures { OnOk result (string_bytes text.new ≡ string_bytes text.old ++ dot ∷ base64url bytes.now) }
@@ -26,4 +29,20 @@ pub fn sign(alloc: Global, key: &[u8], payload: &[u8]) -> Result<String, AllocEr
     let mac = hmac(key, text.as_bytes());
     push_part(&mut text, &mac)?;
     Ok(text)
+}
+
+// The length of a part of so many bytes.
+fn part_length(bytes: usize) -> usize
+    requires { bytes < 2 ^ 63 }
+    ensures { result ≡ unpadded_len bytes }
+{
+    bytes + (bytes + 2) / 3
+}
+
+/// The length of the compact form of a payload of so many bytes, under any key.
+pub fn signed_length(payload: usize) -> usize
+    requires { payload < 2 ^ 63 }
+    ensures { (key bytes : List ℕ) → length bytes ≡ payload → length (compact key bytes) ≡ result }
+{
+    part_length(HEADER.len()) + 1 + part_length(payload) + 1 + part_length(MAC_LENGTH)
 }

@@ -9,7 +9,7 @@ mod mac;
 mod parts;
 mod verification;
 
-pub use compact::sign;
+pub use compact::{sign, signed_length};
 pub use fault::JwsFault;
 pub use laws::{signed_text_verifies, verified_text_is_signed};
 pub use mac::hmac;
