@@ -1,4 +1,4 @@
-ghost use Rattle.std.specs.Prelude.{◌≡◌, IfOk};
+ghost use Rattle.std.specs.Prelude.{◌≡◌, [], IfOk};
 ghost use Rattle.std.specs.List.{AllByRecursion};
 ghost use Rattle.boundary.specs.Exact.{IsExactBoundary};
 
@@ -7,10 +7,17 @@ use boundary::Boundary;
 use iam_names::{Account, Identity, PoolName, ScopeWord, Who};
 use std::alloc::{AllocError, Global};
 
+/// An empty list with room for so many, and no more.
+pub fn with_room<T>(alloc: Global, count: usize) -> Result<Items<T>, AllocError>
+    ensures { IfOk result (λ items. items ≡ []) }
+{
+    Ok(Items::from_vec(Vec::with_capacity(alloc, count)?))
+}
+
 pub(crate) fn copy_texts(alloc: Global, texts: &[Text]) -> Result<Items<Text>, AllocError>
     ensures { IfOk result (λ copy. copy ≡ texts.now) }
 {
-    let mut copy = Items::new(alloc);
+    let mut copy = with_room(alloc, texts.len())?;
     for text in texts {
         copy.push(text.copy(alloc)?)?;
     }
@@ -21,7 +28,7 @@ pub(crate) fn copy_texts(alloc: Global, texts: &[Text]) -> Result<Items<Text>, A
 pub fn copy_words(alloc: Global, words: &[ScopeWord]) -> Result<Items<ScopeWord>, AllocError>
     ensures { IfOk result (λ copy. copy ≡ words.now) }
 {
-    let mut copy = Items::new(alloc);
+    let mut copy = with_room(alloc, words.len())?;
     for word in words {
         copy.push(word.copy(alloc)?)?;
     }
@@ -34,7 +41,7 @@ pub(crate) fn copy_scopes(
 ) -> Result<Items<Items<ScopeWord>>, AllocError>
     ensures { IfOk result (λ copy. copy ≡ scopes.now) }
 {
-    let mut copy = Items::new(alloc);
+    let mut copy = with_room(alloc, scopes.len())?;
     for words in scopes {
         copy.push(copy_words(alloc, words.as_slice())?)?;
     }
@@ -44,7 +51,7 @@ pub(crate) fn copy_scopes(
 pub(crate) fn copy_pools(alloc: Global, pools: &[PoolName]) -> Result<Items<PoolName>, AllocError>
     ensures { IfOk result (λ copy. copy ≡ pools.now) }
 {
-    let mut copy = Items::new(alloc);
+    let mut copy = with_room(alloc, pools.len())?;
     for pool in pools {
         copy.push(pool.copy(alloc)?)?;
     }
@@ -57,7 +64,7 @@ pub(crate) fn copy_accounts(
 ) -> Result<Items<Account>, AllocError>
     ensures { IfOk result (λ copy. copy ≡ accounts.now) }
 {
-    let mut copy = Items::new(alloc);
+    let mut copy = with_room(alloc, accounts.len())?;
     for account in accounts {
         copy.push(account.copy(alloc)?)?;
     }
@@ -68,7 +75,7 @@ pub(crate) fn copy_bounds(alloc: Global, bounds: &[Boundary]) -> Result<Items<Bo
     requires { AllByRecursion IsExactBoundary bounds.now }
     ensures { IfOk result (λ copy. copy ≡ bounds.now) }
 {
-    let mut copy = Items::new(alloc);
+    let mut copy = with_room(alloc, bounds.len())?;
     for boundary in bounds {
         copy.push(boundary::copy(alloc, boundary)?)?;
     }

@@ -7,7 +7,7 @@ mod impersonation;
 mod narrowing;
 mod parts;
 
-pub use copying::copy_words;
+pub use copying::{copy_words, with_room};
 pub use delegation::delegated;
 pub use impersonation::impersonated;
 pub use narrowing::narrowed;

@@ -1,14 +1,11 @@
 pub mod ByLists
 pub mod Chains
-pub mod Counted
 pub mod Good
 pub mod GoodLinks
-pub mod Granted
 pub mod Held
 pub mod HopPlaces
 pub mod Issuing
 pub mod Journals
-pub mod LinkLaws
 pub mod Names
 pub mod Numbers
 pub mod Places

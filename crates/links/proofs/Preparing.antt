@@ -24,6 +24,7 @@ use Rattle.entry_rules.specs.declared.fault.ApplyFault.TheVariants.{Unlicensed, 
 use Rattle.entry_rules.specs.declared.fault.RuleCode.{RuleCode}
 use Rattle.entry_rules.specs.declared.fault.RuleCode.TheVariants.{E25, I11}
 use Rattle.links.specs.declared.tokens.Issued.{Issued}
+use Rattle.links.specs.declared.prepared.Plan.{Plan}
 use Rattle.links.specs.declared.prepared.Plan.TheVariants as plan
 use Rattle.links.specs.declared.recorded.RecordedLink.{RecordedLink}
 use Rattle.subject_token.specs.declared.source.Source.{Source}
@@ -31,8 +32,8 @@ use Rattle.links.specs.Chain.{Chain, Root, Narrowed, Impersonated, Delegated, Ow
 use Rattle.links.specs.Facts.{facts_of}
 use Rattle.entry_rules.specs.Passing.{Passes, Refuses}
 use Rattle.links.specs.Licence.{first_unlicensed, exchange_rules, narrow_rules, impersonation_rules, delegation_rules}
-use Rattle.links.specs.Licence.{size_rule, is_deep, is_long, begins_with_name, may_be_acted_for, rule_of, refusal_of, prepared_of, Licensed}
-use Rattle.links.specs.Prepared.{PreparedEntry, planned, with_link}
+use Rattle.links.specs.Licence.{size_rule, is_deep, is_long, begins_with_name, may_be_acted_for, rule_of, refusal_of, planned_of, prepared_of, Licensed}
+use Rattle.links.specs.Prepared.{PlannedEntry, PreparedEntry, planned, with_link, with_token}
 use Rattle.links.specs.Recorded.{recorded, narrowed, impersonated, delegated}
 use Rattle.links.specs.State.{Content, chain, link_of, made, made_by, source_at, federated_link, narrow_link, impersonate_link, delegate_link, token_text}
 use Rattle.links.proofs.Chains.{length-chains_of}
@@ -189,28 +190,26 @@ pub held_bounds : (c : Content) (n : ℕ) (row : RecordedLink) → IsKept c → 
     → AllByRecursion IsExactBoundary row.facts.bounds
 held_bounds c n row kept is = bounds_by (chain c n) row is (λ found there. (good_of_chain c n found kept there).form)
 
--- ---- what is prepared
+-- ---- what is planned and prepared
 
 abbrev text_of : Content → RecordedLink → List ℕ
 text_of c link = compact c.key (payload_text c.issuer link.facts)
 
 abbrev made_up : Content → RecordedLink → Issued
-made_up c link = record { recorded = link; payload = payload_text c.issuer link.facts; token = text_of c link }
+made_up c link = record { recorded = link; payload = payload_text c.issuer link.facts }
 
 told : (c : Content) (e : Entry) (made_chain : Option Chain) (link : RecordedLink) → Some link ≡ option_map recorded made_chain
     → with_link e (made_up c link) ≡ record {
       entry = e;
       recorded = option_map recorded made_chain;
       payload = option_map (λ found. payload_text c.issuer (facts_of found)) made_chain;
-      token = option_map (token_text c) made_chain;
     }
-unfolding token_text
 told c e None link is = absurd (cc is)
 told c e (Some found) link is = let same : link ≡ recorded found = cc is in rw same refl
 
--- the link with its token is what is prepared
+-- the link with its payload is what is planned
 pub issued_is : (c : Content) (e : Entry) (link : RecordedLink) (r : Result Issued ApplyFault) → Some link ≡ option_map recorded (made c e)
-    → IfOk r (λ (issued : Issued). issued ≡ made_up c link) → IfOk r (λ (issued : Issued). with_link e issued ≡ prepared_of c e)
+    → IfOk r (λ (issued : Issued). issued ≡ made_up c link) → IfOk r (λ (issued : Issued). with_link e issued ≡ planned_of c e)
 issued_is c e link (Ok issued) is up = ap (λ (i : Issued). with_link e i) up ∙ told c e (made c e) link is
 issued_is c e link (Err fault) is up = tt
 
@@ -219,6 +218,20 @@ long : (c : Content) (made_chain : Option Chain) (link : RecordedLink) → Some 
 unfolding token_text
 long c None link is = absurd (cc is)
 long c (Some found) link is = let same : link ≡ recorded found = cc is in rw same refl
+
+signed : (c : Content) (made_chain : Option Chain)
+    → option_map (compact c.key) (option_map (λ found. payload_text c.issuer (facts_of found)) made_chain) ≡ option_map (token_text c) made_chain
+unfolding token_text
+signed c None = refl
+signed c (Some found) = refl
+
+-- what is planned is what is prepared, once it is signed
+pub signed_is : (c : Content) (e : Entry) (p : PlannedEntry) (r : Result PreparedEntry ApplyFault) → p ≡ planned_of c e
+    → IfOk r (λ (q : PreparedEntry). q ≡ with_token p (option_map (compact c.key) p.payload)) → IfOk r (λ (q : PreparedEntry). q ≡ prepared_of c e)
+signed_is c e p (Ok q) is made_so =
+    made_so ∙ ap (λ (k : PlannedEntry). with_token k (option_map (compact c.key) k.payload)) is
+    ∙ ap (λ (t : Option (List ℕ)). with_token (planned_of c e) t) (signed c (made c e))
+signed_is c e p (Err fault) is made_so = tt
 
 -- the token's size is looked at last
 pub size_last : {X : Type 0} (c : Content) (e : Entry) (rules : List (Option RuleCode)) (code : RuleCode) (link : RecordedLink) (r : Result X ApplyFault)
@@ -261,11 +274,11 @@ back (command.Scope word permissions) = refl
 back (command.Policy resource bindings) = refl
 
 pub put_prepares : (c : Content) (command : Command) (ready : Ready) → ready ≡ made_ready command → ready_fault c.view command ≡ None
-    → (planned (plan.Put ready) ≡ prepared_of c (entry.Put command)) × Licensed c (entry.Put command)
+    → (planned (plan.Put ready) ≡ planned_of c (entry.Put command)) × Licensed c (entry.Put command)
 unfolding first_unlicensed
 put_prepares c command ready is none =
     let same : command_of ready ≡ command = ap command_of is ∙ back command in
-    (ap (λ (k : Command). prepared_of c (entry.Put k)) same, ap (λ (f : Option ReadyFault). option_map rule_of f) none)
+    (ap (λ (k : Command). planned_of c (entry.Put k)) same, ap (λ (f : Option ReadyFault). option_map rule_of f) none)
 
 pub put_refused : (c : Content) (command : Command) (fault : ReadyFault) → RefusesBy {X = Ready} (ready_fault c.view command) (Err fault)
     → Refuses (refusal_of fault) (first_unlicensed c (entry.Put command))
@@ -277,7 +290,7 @@ put_refused c command ready_faults.Memory is = tt
 
 -- ---- room
 
-pub room_prepared : (c : Content) (e : Entry) (p : PreparedEntry) (r : Result PreparedEntry ApplyFault) → p ≡ prepared_of c e
-    → IfOk r (λ (q : PreparedEntry). q ≡ p) → IfOk r (λ (q : PreparedEntry). q ≡ prepared_of c e)
-room_prepared c e p (Ok q) is ok = ok ∙ is
-room_prepared c e p (Err fault) is ok = tt
+pub room_planned : (c : Content) (e : Entry) (p : Plan) (r : Result Plan ApplyFault) → planned p ≡ planned_of c e
+    → IfOk r (λ (q : Plan). q ≡ p) → IfOk r (λ (q : Plan). planned q ≡ planned_of c e)
+room_planned c e p (Ok q) is ok = ap planned ok ∙ is
+room_planned c e p (Err fault) is ok = tt

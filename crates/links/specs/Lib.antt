@@ -1,4 +1,3 @@
-pub mod Ancestors
 pub mod Authority
 pub mod Chain
 pub mod Entries
@@ -9,5 +8,4 @@ pub mod Licence
 pub mod Places
 pub mod Prepared
 pub mod Recorded
-pub mod Shown
 pub mod State

@@ -27,7 +27,7 @@ use Rattle.links.specs.Authority.{is_live}
 use Rattle.links.specs.Facts.{depth_of, facts_of, may_act_of, who_of}
 use Rattle.links.specs.Hops.{hops}
 use Rattle.links.specs.Places.{place_of}
-use Rattle.links.specs.Prepared.{PreparedEntry}
+use Rattle.links.specs.Prepared.{PlannedEntry, PreparedEntry}
 use Rattle.links.specs.Recorded.{recorded}
 use Rattle.links.specs.State.{Content, start_of, chain, content_of, made, source_at, token_text, after}
 use Rattle.allow_policy.specs.Granting.{knows_scope}
@@ -170,4 +170,12 @@ prepared_of c e = record {
   recorded = option_map recorded (made c e);
   payload = option_map (λ chain. payload_text c.issuer (facts_of chain)) (made c e);
   token = option_map (token_text c) (made c e);
+}
+
+-- the same, but for the token's text
+abbrev pub planned_of : Content → Entry → PlannedEntry
+planned_of c e = record {
+  entry = e;
+  recorded = option_map recorded (made c e);
+  payload = option_map (λ chain. payload_text c.issuer (facts_of chain)) (made c e);
 }

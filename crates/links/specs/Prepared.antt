@@ -15,11 +15,21 @@ pub record PreparedEntry : Type 0 where
   pub payload : Option (List ℕ)
   pub token : Option (List ℕ)
 
+-- the same, but for the token's text
+pub record PlannedEntry : Type 0 where
+  pub entry : Entry
+  pub recorded : Option RecordedLink
+  pub payload : Option (List ℕ)
+
 -- the entry, with the link that it records
-abbrev pub with_link : Entry → Issued → PreparedEntry
-with_link e issued = record { entry = e; recorded = Some issued.recorded; payload = Some issued.payload; token = Some issued.token }
+abbrev pub with_link : Entry → Issued → PlannedEntry
+with_link e issued = record { entry = e; recorded = Some issued.recorded; payload = Some issued.payload }
 
 -- what a plan shows
-abbrev pub planned : Plan → PreparedEntry
-planned (plan.Put ready) = record { entry = entry.Put (command_of ready); recorded = None; payload = None; token = None }
+abbrev pub planned : Plan → PlannedEntry
+planned (plan.Put ready) = record { entry = entry.Put (command_of ready); recorded = None; payload = None }
 planned (plan.Link e issued) = with_link e issued
+
+-- what is planned, with the token's text
+abbrev pub with_token : PlannedEntry → Option (List ℕ) → PreparedEntry
+with_token planned token = record { entry = planned.entry; recorded = planned.recorded; payload = planned.payload; token = token }

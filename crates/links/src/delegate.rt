@@ -5,20 +5,20 @@ ghost use Rattle.boundary.specs.Exact.{IsExactBoundary};
 ghost use Rattle.entry_rules.specs.Passing.{Passes};
 ghost use Rattle.links.specs.declared.entry.Entry.TheVariants as entries;
 ghost use Rattle.links.specs.Entries.{IsDelegation};
-ghost use Rattle.links.specs.Licence.{begins_with_name, delegation_rules, first_unlicensed, prepared_of};
+ghost use Rattle.links.specs.Licence.{begins_with_name, delegation_rules, first_unlicensed, planned_of};
 ghost use Rattle.links.specs.Prepared.{with_link};
 ghost use Rattle.links.specs.Recorded.{recorded, delegated as delegated_row};
 ghost use Rattle.links.specs.State.{made};
 
 use crate::checks::{check, check_depth, knows_words, live_link};
-use crate::tokens::{Issued, with_token};
+use crate::tokens::{Issued, with_payload};
 use crate::{Delegation, RecordedKind, RecordedLink, State};
 use base_types::Text;
 use derived_facts::delegated;
 use entry_rules::{ApplyFault, RuleCode};
 use std::alloc::Global;
 
-/// The link that a delegation records, with its token, or the first rule that forbids it.
+/// The link that a delegation records, with its token's payload, or the first rule that forbids it.
 #[tactic(auto, using(crate::proofs::Preparing::delegation_refused_before))]
 pub(crate) fn delegate(
     alloc: Global,
@@ -28,10 +28,10 @@ pub(crate) fn delegate(
     requires { IsDelegation delegation.now }
     ensures licensed { Passes result (first_unlicensed state.now.content (entries.Delegate delegation.now)) }
     ensures issued { IfOk result (λ issued. with_link (entries.Delegate delegation.now) issued
-        ≡ prepared_of state.now.content (entries.Delegate delegation.now)) }
+        ≡ planned_of state.now.content (entries.Delegate delegation.now)) }
 {
     let recorded = link_for(alloc, state, delegation)?;
-    with_token(alloc, state, recorded, RuleCode::E25)
+    with_payload(alloc, state, recorded, RuleCode::E25)
 }
 
 // The link that a delegation would record.

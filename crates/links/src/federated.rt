@@ -8,17 +8,17 @@ ghost use Rattle.links.specs.Chain.{Root};
 ghost use Rattle.links.specs.Entries.{IsExchange};
 ghost use Rattle.links.specs.Facts.{pools_in};
 ghost use Rattle.entry_rules.specs.Passing.{Passes, fault_of};
-ghost use Rattle.links.specs.Licence.{exchange_rules, first_unlicensed, prepared_of};
+ghost use Rattle.links.specs.Licence.{exchange_rules, first_unlicensed, planned_of};
 ghost use Rattle.links.specs.Prepared.{with_link};
 ghost use Rattle.links.specs.Recorded.{recorded};
 ghost use Rattle.links.specs.State.{made, named, provider_enabled, source_at};
 
 use crate::checks::{check, knows_words};
-use crate::tokens::{Issued, with_token};
+use crate::tokens::{Issued, with_payload};
 use crate::{Exchange, RecordedKind, RecordedLink, State};
 use access_token::{Facts, subject_name};
 use base_types::{Items, Text};
-use derived_facts::copy_words;
+use derived_facts::{copy_words, with_room};
 use entry_rules::{ApplyFault, RuleCode, unlicensed};
 use iam_names::{Audience, PoolName, ScopeWord, Who};
 use pools::Provider;
@@ -38,16 +38,16 @@ pub fn all_permissions(alloc: Global) -> Result<Items<ScopeWord>, AllocError>
     Ok(words)
 }
 
-/// The link that an exchange records, with its token, or the first rule that forbids it.
+/// The link that an exchange records, with its token's payload, or the first rule that forbids it.
 #[tactic(auto, using(crate::proofs::Preparing::exchange_refused_before))]
 pub(crate) fn issue(alloc: Global, state: &State, exchange: &Exchange) -> Result<Issued, ApplyFault>
     requires { IsExchange exchange.now }
     ensures licensed { Passes result (first_unlicensed state.now.content (entries.Federated exchange.now)) }
     ensures issued { IfOk result (λ issued. with_link (entries.Federated exchange.now) issued
-        ≡ prepared_of state.now.content (entries.Federated exchange.now)) }
+        ≡ planned_of state.now.content (entries.Federated exchange.now)) }
 {
     let recorded = link_for(alloc, state, exchange)?;
-    with_token(alloc, state, recorded, RuleCode::E25)
+    with_payload(alloc, state, recorded, RuleCode::E25)
 }
 
 // The link that an exchange would record.
@@ -108,7 +108,7 @@ fn show(alloc: Global, who: &Who, words: &[ScopeWord]) -> Result<Shown, AllocErr
 fn pools_of(alloc: Global, who: &Who) -> Result<Items<PoolName>, AllocError>
     ensures { IfOk result (λ pools. pools ≡ pools_in who.now) }
 {
-    let mut pools = Items::new(alloc);
+    let mut pools = with_room(alloc, 1)?;
     if let Who::Outside { pool, .. } = who {
         pools.push(pool.copy(alloc)?)?;
     }
@@ -118,7 +118,7 @@ fn pools_of(alloc: Global, who: &Who) -> Result<Items<PoolName>, AllocError>
 fn scopes_of(alloc: Global, words: &[ScopeWord]) -> Result<Items<Items<ScopeWord>>, AllocError>
     ensures { IfOk result (λ scopes. scopes ≡ words.now ∷ []) }
 {
-    let mut scopes = Items::new(alloc);
+    let mut scopes = with_room(alloc, 1)?;
     scopes.push(copy_words(alloc, words)?)?;
     Ok(scopes)
 }

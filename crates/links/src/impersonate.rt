@@ -6,7 +6,7 @@ ghost use Rattle.entry_rules.specs.Passing.{Passes};
 ghost use Rattle.service_view.specs.View.{account_enabled};
 ghost use Rattle.links.specs.declared.entry.Entry.TheVariants as entries;
 ghost use Rattle.links.specs.Entries.{IsImpersonation};
-ghost use Rattle.links.specs.Licence.{failing_hop as failed_hop, first_unlicensed, impersonation_rules, prepared_of, unknown_account};
+ghost use Rattle.links.specs.Licence.{failing_hop as failed_hop, first_unlicensed, impersonation_rules, planned_of, unknown_account};
 ghost use Rattle.links.specs.Places.{place_of};
 ghost use Rattle.links.specs.Prepared.{with_link};
 ghost use Rattle.links.specs.Recorded.{recorded, impersonated as impersonated_row};
@@ -14,7 +14,7 @@ ghost use Rattle.links.specs.State.{chain, made};
 
 use crate::checks::{check, check_depth, knows_words};
 use crate::hops::failing_hop;
-use crate::tokens::{Issued, with_token};
+use crate::tokens::{Issued, with_payload};
 use crate::{Impersonation, RecordedKind, RecordedLink, State};
 use derived_facts::impersonated;
 use entry_rules::{ApplyFault, RuleCode, unlicensed};
@@ -22,7 +22,7 @@ use iam_names::Account;
 use service_view::View;
 use std::alloc::Global;
 
-/// The link that an impersonation records, with its token, or the first rule that forbids it.
+/// The link that an impersonation records, with its token's payload, or the first rule that forbids it.
 #[tactic(auto, using(crate::proofs::Preparing::impersonation_refused_before))]
 pub(crate) fn impersonate(
     alloc: Global,
@@ -32,10 +32,10 @@ pub(crate) fn impersonate(
     requires { IsImpersonation impersonation.now }
     ensures licensed { Passes result (first_unlicensed state.now.content (entries.Impersonate impersonation.now)) }
     ensures issued { IfOk result (λ issued. with_link (entries.Impersonate impersonation.now) issued
-        ≡ prepared_of state.now.content (entries.Impersonate impersonation.now)) }
+        ≡ planned_of state.now.content (entries.Impersonate impersonation.now)) }
 {
     let recorded = link_for(alloc, state, impersonation)?;
-    with_token(alloc, state, recorded, RuleCode::I11)
+    with_payload(alloc, state, recorded, RuleCode::I11)
 }
 
 // The link that an impersonation would record.

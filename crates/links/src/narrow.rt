@@ -5,21 +5,21 @@ ghost use Rattle.boundary.specs.Exact.{IsExactBoundary};
 ghost use Rattle.entry_rules.specs.Passing.{Passes};
 ghost use Rattle.links.specs.declared.entry.Entry.TheVariants as entries;
 ghost use Rattle.links.specs.Entries.{IsNarrowing};
-ghost use Rattle.links.specs.Licence.{first_unlicensed, narrow_rules, prepared_of, unknown_role_in};
+ghost use Rattle.links.specs.Licence.{first_unlicensed, narrow_rules, planned_of, unknown_role_in};
 ghost use Rattle.links.specs.Prepared.{with_link};
 ghost use Rattle.links.specs.Recorded.{recorded, narrowed as narrowed_row};
 ghost use Rattle.links.specs.State.{made};
 
 use crate::checks::{check, check_depth, knows_words, live_link};
 use crate::roles::unknown_role;
-use crate::tokens::{Issued, with_token};
+use crate::tokens::{Issued, with_payload};
 use crate::{Narrowing, RecordedKind, RecordedLink, State};
 use boundary::Boundary;
 use derived_facts::narrowed;
 use entry_rules::{ApplyFault, RuleCode, unlicensed};
 use std::alloc::Global;
 
-/// The link that a narrowing records, with its token, or the first rule that forbids it.
+/// The link that a narrowing records, with its token's payload, or the first rule that forbids it.
 #[tactic(auto, using(crate::proofs::Preparing::narrow_refused_before))]
 pub(crate) fn narrow(
     alloc: Global,
@@ -29,10 +29,10 @@ pub(crate) fn narrow(
     requires { IsNarrowing narrowing.now }
     ensures licensed { Passes result (first_unlicensed state.now.content (entries.Narrow narrowing.now)) }
     ensures issued { IfOk result (λ issued. with_link (entries.Narrow narrowing.now) issued
-        ≡ prepared_of state.now.content (entries.Narrow narrowing.now)) }
+        ≡ planned_of state.now.content (entries.Narrow narrowing.now)) }
 {
     let recorded = link_for(alloc, state, narrowing)?;
-    with_token(alloc, state, recorded, RuleCode::E25)
+    with_payload(alloc, state, recorded, RuleCode::E25)
 }
 
 // The link that a narrowing would record.

@@ -1,5 +1,6 @@
 use crate::tokens::Issued;
 use crate::{Entry, RecordedLink};
+use base_types::Text;
 use service_view::Ready;
 use std::marker::Model;
 
@@ -15,18 +16,19 @@ pub(crate) enum Plan {
 #[derive(Debug, Drop)]
 pub struct Prepared {
     pub(crate) plan: Plan,
+    pub(crate) token: Option<Text>,
 }
 
 impl Model for Prepared {
     ghost use Rattle.std.specs.Coded.{codes};
     ghost use Rattle.cel_values.specs.contracts.expr.Expr as tree;
-    ghost use Rattle.links.specs.Prepared.{PreparedEntry, planned};
+    ghost use Rattle.links.specs.Prepared.{PreparedEntry, planned, with_token};
 
     ghost Value = { PreparedEntry };
 
     ghost coded = { Prim.hlevel (codes, tree.the_row.coded) };
 
-    ghost view = { λ p. planned p.plan };
+    ghost view = { λ p. with_token (planned p.plan) p.token };
 }
 
 impl Prepared {
@@ -36,9 +38,9 @@ impl Prepared {
     pub fn token(&self) -> Option<&str>
         ensures { option_map (λ text. text.now) result ≡ self.now.token }
     {
-        match &self.plan {
-            Plan::Put(_) => None,
-            Plan::Link { issued, .. } => Some(issued.token.as_str()),
+        match &self.token {
+            None => None,
+            Some(token) => Some(token.as_str()),
         }
     }
 

@@ -106,7 +106,7 @@ fn token_issuer(alloc: Global, start: &StartProvider) -> Result<TokenIssuer, All
 impl State {
     ghost use Rattle.std.specs.Prelude.{◌≡◌, ◌≤◌, ◌<◌, ◌-◌, ◌^◌, length, not, nat_lt, OnOk, IfOk, Some, option_map};
     ghost use Rattle.service_view.specs.Puts.{RefusesBy, ready_fault, made_ready, command_of};
-    ghost use Rattle.links.specs.Licence.{Licensed, Reached, prepared_of};
+    ghost use Rattle.links.specs.Licence.{Licensed, Reached, planned_of};
     ghost use Rattle.links.specs.declared.entry.Entry.TheVariants as entries;
     ghost use Rattle.links.specs.Entries.{IsEntry};
     ghost use Rattle.links.specs.Prepared.{planned};
@@ -200,7 +200,7 @@ impl State {
         requires count { self.old.content.count < 2 ^ 32 - 1 }
         requires form { IsEntry (planned plan).entry }
         requires licensed { Licensed self.old.content (planned plan).entry }
-        requires prepared { planned plan ≡ prepared_of self.old.content (planned plan).entry }
+        requires planned { planned plan ≡ planned_of self.old.content (planned plan).entry }
         ensures { self.new.content ≡ after self.old.content (planned plan).entry }
     {
         match plan {

@@ -1,4 +1,4 @@
-ghost use Rattle.std.specs.Prelude.{◌≡◌, IfOk, length, nat_lt};
+ghost use Rattle.std.specs.Prelude.{◌≡◌, ℕ, List, IfOk, length, nat_lt};
 ghost use Rattle.base_types.specs.Rules.{fails_if};
 ghost use Rattle.hmac_jws.specs.Compact.{compact};
 ghost use Rattle.access_token.specs.Payload.{payload_text};
@@ -6,42 +6,34 @@ ghost use Rattle.entry_rules.specs.Passing.{Passes};
 
 use crate::checks::check;
 use crate::{RecordedLink, State};
-use access_token::{Facts, write_payload};
+use access_token::write_payload;
 use base_types::{Text, kept};
 use entry_rules::{ApplyFault, RuleCode};
-use hmac_jws::sign;
+use hmac_jws::signed_length;
 use std::alloc::{AllocError, Global};
 
 const TOKEN_LIMIT: usize = 8192;
 
-/// A link with its token's payload and text.
+/// A link with its token's payload.
 #[derive(Debug, Drop)]
 pub(crate) struct Issued {
     pub(crate) recorded: RecordedLink,
     pub(crate) payload: Text,
-    pub(crate) token: Text,
 }
 
-/// A link with its token, where that isn't too long.
-pub(crate) fn with_token(
+/// A link with its token's payload, where the token, which isn't made here, isn't too long.
+pub(crate) fn with_payload(
     alloc: Global,
     state: &State,
     recorded: RecordedLink,
     rule: RuleCode,
 ) -> Result<Issued, ApplyFault>
-    ensures issued { IfOk result (λ issued. let payload = payload_text state.now.content.issuer recorded.facts in
-        issued ≡ record { recorded = recorded; payload = payload; token = compact state.now.content.key payload }) }
+    ensures issued { IfOk result (λ issued. issued
+        ≡ record { recorded = recorded; payload = payload_text state.now.content.issuer recorded.facts }) }
     ensures size { Passes result (fails_if (nat_lt 8192 (length (compact state.now.content.key (payload_text state.now.content.issuer recorded.facts)))) rule) }
 {
-    match sign_facts(alloc, state, &recorded.facts) {
-        Ok(signed) => sized(
-            Issued {
-                recorded,
-                payload: signed.payload,
-                token: signed.token,
-            },
-            rule,
-        ),
+    match write_payload(alloc, state.issuer(), &recorded.facts) {
+        Ok(payload) => sized(Issued { recorded, payload }, rule),
         Err(AllocError) => {
             drop(recorded);
             drop(rule);
@@ -52,27 +44,8 @@ pub(crate) fn with_token(
 
 fn sized(issued: Issued, rule: RuleCode) -> Result<Issued, ApplyFault>
     ensures issued { IfOk result (λ same. same ≡ issued) }
-    ensures size { Passes result (fails_if (nat_lt 8192 (length issued.token)) rule) }
+    ensures size { (key : List ℕ) → Passes result (fails_if (nat_lt 8192 (length (compact key issued.payload))) rule) }
 {
-    let size = check(issued.token.as_str().len() <= TOKEN_LIMIT, rule);
-    kept(issued, size)
-}
-
-// A token's payload and text.
-#[derive(Debug, Drop)]
-struct Signed {
-    payload: Text,
-    token: Text,
-}
-
-fn sign_facts(alloc: Global, state: &State, facts: &Facts) -> Result<Signed, AllocError>
-    ensures { IfOk result (λ signed. let payload = payload_text state.now.content.issuer facts.now in
-        signed ≡ record { payload = payload; token = compact state.now.content.key payload }) }
-{
-    let payload = write_payload(alloc, state.issuer(), facts)?;
-    let token = sign(alloc, state.key(), payload.as_str().as_bytes())?;
-    Ok(Signed {
-        payload,
-        token: Text::new(token),
-    })
+    let length = signed_length(issued.payload.as_str().len());
+    kept(issued, check(length <= TOKEN_LIMIT, rule))
 }

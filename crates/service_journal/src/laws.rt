@@ -1,4 +1,4 @@
-ghost use Rattle.std.specs.Prelude.{◌≡◌, ◌≤◌, ◌++◌, ◌+◌, [], ◌∷◌, List, ℕ, length, true};
+ghost use Rattle.std.specs.Prelude.{◌≡◌, ◌++◌, ◌+◌, [], ◌∷◌, List, ℕ, length, true};
 ghost use Rattle.std.specs.List.{AllByRecursion};
 ghost use Rattle.entry_texts.specs.Exact.{IsExactEntry};
 ghost use Rattle.entry_texts.specs.Written.{entry_text};

@@ -29,7 +29,7 @@ use Rattle.grant_gate.specs.declared.fault.GateFault.TheVariants as gate
 use Rattle.links.specs.declared.entry.Entry.{Entry}
 use Rattle.links.specs.declared.entry.Entry.TheVariants as entry
 use Rattle.entry_rules.specs.declared.fault.RuleCode.{RuleCode}
-use Rattle.links.specs.Ancestors.{limits_in, links_in}
+use Rattle.link_laws.specs.Ancestors.{limits_in, links_in}
 use Rattle.links.specs.Authority.{admits, allows, allows_itself, live, lives_itself}
 use Rattle.allow_policy.specs.Granting.{granted}
 use Rattle.boundary.specs.declared.rules.Boundary.{Boundary}
@@ -39,9 +39,9 @@ use Rattle.links.specs.Facts.{exp_of, who_of, pools_of, accounts_of, scopes_of, 
 use Rattle.links.specs.Issued.{issued_link}
 use Rattle.links.specs.Licence.{first_unlicensed, Lawful}
 use Rattle.links.specs.State.{chain, content_of, start_of, state_after, token_text}
-use Rattle.links.proofs.Counted.{each_allows, each_lives, parent_admits, subject_admits}
+use Rattle.link_laws.proofs.Counted.{each_allows, each_lives, parent_admits, subject_admits}
 use Rattle.links.proofs.Journals.{lawful_kept, whole_of_chain}
-use Rattle.links.proofs.LinkLaws.{issued_for}
+use Rattle.link_laws.proofs.LinkLaws.{issued_for}
 use Rattle.links.proofs.Replays.{lawful-last, state_after-append}
 use Rattle.exchange_form.specs.declared.exchange_rule.ExchangeRule.{ExchangeRule}
 use Rattle.sts_core.specs.Asked.{asked_for}

@@ -164,6 +164,19 @@ step_of Admin config c size request now = where_it_fits size (codes "A7") (admin
 abbrev pub step : Config → List Entry → Request → ℕ → Answer
 step config journal request now = step_of request.route config (content_of config journal) (journal_size journal) request now
 
+-- the answer to an exchange over a journal
+abbrev pub exchange_answer : Config → List Entry → Request → ℕ → Answer
+exchange_answer config journal request now = where_it_fits (journal_size journal) (codes "E26") (exchange (content_of config journal) request now)
+
+-- the answer to a request for an account's token over a journal
+abbrev pub generate_answer : Config → List Entry → List ℕ → Request → ℕ → Answer
+generate_answer config journal account request now =
+    where_it_fits (journal_size journal) (codes "I12") (generate (content_of config journal) account request now)
+
+-- the answer to a command over a journal
+abbrev pub command_answer : Config → List Entry → Request → Answer
+command_answer config journal request = where_it_fits (journal_size journal) (codes "A7") (administration config.admin (content_of config journal) request)
+
 -- the journal with the entry, if there is one
 abbrev pub with_entry : List Entry → Option Entry → List Entry
 with_entry journal None = journal

@@ -7,7 +7,7 @@ ghost use Rattle.grant_gate.specs.declared.decision.Decision.TheVariants.{Admit}
 ghost use Rattle.hmac_jws.specs.Verified.{MacGood};
 ghost use Rattle.service_config.specs.declared.config.Config.{Config};
 ghost use Rattle.service_config.specs.Formed.{IsFormedConfig};
-ghost use Rattle.links.specs.Ancestors.{limits_in, links_in};
+ghost use Rattle.link_laws.specs.Ancestors.{limits_in, links_in};
 ghost use Rattle.links.specs.Authority.{admits, allows_itself, lives_itself};
 ghost use Rattle.boundary.specs.declared.rules.Boundary.{Boundary as Limits};
 ghost use Rattle.links.specs.Chain.{Chain, Narrowed, Delegated, Own};

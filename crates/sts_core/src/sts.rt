@@ -1,4 +1,4 @@
-ghost use Rattle.std.specs.Prelude.{◌≡◌, ◌≤◌, ◌+◌, ◌*◌, ℕ, List, true, false, length, IfOk, IfErr, IfSome, OnOk, Err, Option, ◌⊎◌, codes};
+ghost use Rattle.std.specs.Prelude.{◌≡◌, ◌≤◌, ◌+◌, ◌*◌, ℕ, List, true, false, length, IfOk, IfErr, IfSome, OnOk, Err, Option, ◌⊎◌};
 ghost use Rattle.links.specs.declared.entry.Entry.{Entry};
 ghost use Rattle.links.specs.State.{content_of};
 ghost use Rattle.grant_journal.specs.declared.rule.JournalRule.{JournalRule as Rule};
@@ -8,7 +8,7 @@ ghost use Rattle.service_journal.specs.Opening.{IsRefusedAt};
 ghost use Rattle.service_journal.specs.declared.opening.OpenFault.TheVariants as faults;
 ghost use Rattle.grant_journal.specs.JournalBytes.{ReadsAs};
 ghost use Rattle.service_journal.specs.Journals.{journal_size, texts_of};
-ghost use Rattle.sts_core.specs.Machine.{exchange as exchange_of, generate as generate_of, administration, checking, introspection_reply, step, where_it_fits, with_entry};
+ghost use Rattle.sts_core.specs.Machine.{checking, command_answer, exchange_answer, generate_answer, introspection_reply, step, with_entry};
 ghost use Rattle.sts_core.specs.Opened.{FindsService};
 ghost use Rattle.sts_core.specs.State.{Causes, Stands, StandsForEither, Stays};
 ghost use Rattle.sts_core.specs.declared.stop.Stop.TheVariants as stops;
@@ -159,14 +159,14 @@ impl<D: Disk> Sts<D> {
     pub fn exchange(&mut self, alloc: Global, request: &Request, now: u64) -> Result<Reply, Stop>
         requires moment { now ≤ 200_000_000_000 }
         ensures reply { (config : Configuration) (journal : List Entry) → Stands self.old config journal
-            → IfOk result (λ reply. reply ≡ (where_it_fits (journal_size journal) (codes "E26") (exchange_of (content_of config journal) request.now now)).reply) }
+            → IfOk result (λ reply. reply ≡ (exchange_answer config journal request.now now).reply) }
         ensures stands { (config : Configuration) (journal : List Entry) → Stands self.old config journal
-            → OnOk result (Stands self.new config (with_entry journal (where_it_fits (journal_size journal) (codes "E26") (exchange_of (content_of config journal) request.now now)).entry)) }
+            → OnOk result (Stands self.new config (with_entry journal (exchange_answer config journal request.now now).entry)) }
 
         // A crash at any moment of the call leaves the journal from before it, with the entry or without.
         ensures any_moment { (config : Configuration) (journal : List Entry) → Stands self.old config journal
             → Leaves self.old.journal.told self.new.journal.told
-            (StandsForEither journal (with_entry journal (where_it_fits (journal_size journal) (codes "E26") (exchange_of (content_of config journal) request.now now)).entry)) }
+            (StandsForEither journal (with_entry journal (exchange_answer config journal request.now now).entry)) }
 
         // Why there is no reply, and what is left then.
         ensures stays { IfErr result (λ stop. Stays stop self.old self.new) }
@@ -194,14 +194,14 @@ impl<D: Disk> Sts<D> {
     ) -> Result<Reply, Stop>
         requires moment { now ≤ 200_000_000_000 }
         ensures reply { (config : Configuration) (journal : List Entry) → Stands self.old config journal
-            → IfOk result (λ reply. reply ≡ (where_it_fits (journal_size journal) (codes "I12") (generate_of (content_of config journal) account.now request.now now)).reply) }
+            → IfOk result (λ reply. reply ≡ (generate_answer config journal account.now request.now now).reply) }
         ensures stands { (config : Configuration) (journal : List Entry) → Stands self.old config journal
-            → OnOk result (Stands self.new config (with_entry journal (where_it_fits (journal_size journal) (codes "I12") (generate_of (content_of config journal) account.now request.now now)).entry)) }
+            → OnOk result (Stands self.new config (with_entry journal (generate_answer config journal account.now request.now now).entry)) }
 
         // A crash at any moment of the call leaves the journal from before it, with the entry or without.
         ensures any_moment { (config : Configuration) (journal : List Entry) → Stands self.old config journal
             → Leaves self.old.journal.told self.new.journal.told
-            (StandsForEither journal (with_entry journal (where_it_fits (journal_size journal) (codes "I12") (generate_of (content_of config journal) account.now request.now now)).entry)) }
+            (StandsForEither journal (with_entry journal (generate_answer config journal account.now request.now now).entry)) }
 
         // Why there is no reply, and what is left then.
         ensures stays { IfErr result (λ stop. Stays stop self.old self.new) }
@@ -222,14 +222,14 @@ impl<D: Disk> Sts<D> {
     /// Answers a command of an administrator, whatever the moment: what it puts stands in place of what stood under its name.
     pub fn admin(&mut self, alloc: Global, request: &Request, _now: u64) -> Result<Reply, Stop>
         ensures reply { (config : Configuration) (journal : List Entry) → Stands self.old config journal
-            → IfOk result (λ reply. reply ≡ (where_it_fits (journal_size journal) (codes "A7") (administration config.admin (content_of config journal) request.now)).reply) }
+            → IfOk result (λ reply. reply ≡ (command_answer config journal request.now).reply) }
         ensures stands { (config : Configuration) (journal : List Entry) → Stands self.old config journal
-            → OnOk result (Stands self.new config (with_entry journal (where_it_fits (journal_size journal) (codes "A7") (administration config.admin (content_of config journal) request.now)).entry)) }
+            → OnOk result (Stands self.new config (with_entry journal (command_answer config journal request.now).entry)) }
 
         // A crash at any moment of the call leaves the journal from before it, with the entry or without.
         ensures any_moment { (config : Configuration) (journal : List Entry) → Stands self.old config journal
             → Leaves self.old.journal.told self.new.journal.told
-            (StandsForEither journal (with_entry journal (where_it_fits (journal_size journal) (codes "A7") (administration config.admin (content_of config journal) request.now)).entry)) }
+            (StandsForEither journal (with_entry journal (command_answer config journal request.now).entry)) }
 
         // Why there is no reply, and what is left then.
         ensures stays { IfErr result (λ stop. Stays stop self.old self.new) }

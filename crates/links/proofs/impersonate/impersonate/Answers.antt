@@ -9,10 +9,10 @@ unfolding first_unlicensed
 returns-clause-licensed c =
     let content = c.args.state.now.content in
     let x = c.args.impersonation.now in
-    size_last content (entry.Impersonate x) (impersonation_rules content x) I11 c.in_ok-recorded.recorded c.with_token.result c.in_ok-recorded.ensures.link
-    c.in_ok-recorded.ensures.passes c.with_token.ensures.size
+    size_last content (entry.Impersonate x) (impersonation_rules content x) I11 c.in_ok-recorded.recorded c.with_payload.result c.in_ok-recorded.ensures.link
+    c.in_ok-recorded.ensures.passes c.with_payload.ensures.size
 
 pub returns-clause-issued : goal.returns-clause-issued
 returns-clause-issued c =
-    issued_is c.args.state.now.content (entry.Impersonate c.args.impersonation.now) c.in_ok-recorded.recorded c.with_token.result c.in_ok-recorded.ensures.link
-    c.with_token.ensures.issued
+    issued_is c.args.state.now.content (entry.Impersonate c.args.impersonation.now) c.in_ok-recorded.recorded c.with_payload.result c.in_ok-recorded.ensures.link
+    c.with_payload.ensures.issued

@@ -1,0 +1,3 @@
+pub mod Counted
+pub mod Granted
+pub mod LinkLaws

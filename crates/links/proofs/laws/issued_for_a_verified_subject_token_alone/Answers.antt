@@ -1,5 +1,0 @@
-use Rattle.links.proofs.LinkLaws.{was_shown}
-use Rattle.links.proofs.laws.issued_for_a_verified_subject_token_alone.Goals as goal
-
-pub returns : goal.returns
-returns c = was_shown
