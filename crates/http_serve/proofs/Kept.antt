@@ -6,45 +6,21 @@ use Rattle.wif_base.specs.Disk.{LeavesNow, MayLeave, Told}
 use Rattle.wif_base.specs.declared.route.Route.{Route}
 use Rattle.wif_base.specs.Routes.{route}
 use Rattle.service_config.specs.declared.config.Config.{Config}
-use Rattle.grant_journal.specs.JournalBytes.{StandsFor}
 use Rattle.links.specs.Licence.{Lawful}
 use Rattle.links.specs.declared.entry.Entry.{Entry}
-use Rattle.service_journal.specs.Journals.{StandsForEntries, texts_of}
+use Rattle.service_journal.specs.Journals.{StandsForEntries}
 use Rattle.sts_core.specs.Machine.{with_entry}
-use Rattle.sts_core.specs.State.{Standing, Stands, StandsForEither}
-use Rattle.sts_core.specs.declared.stop.Stop.TheVariants.{Memory, Journal, Broken}
+use Rattle.sts_core.specs.State.{Standing, StandsForEither}
 use Rattle.sts_core.proofs.Checked.{step_lawful}
-use Rattle.sts_serve.specs.Left.{LeavesService, entries_behind}
+use Rattle.sts_serve.specs.Left.{entries_behind}
 use Rattle.sts_serve.specs.declared.served.Served.{Served}
-use Rattle.sts_serve.specs.declared.served.Served.TheVariants.{Done, ReadFault, WriteFault, ClockFault, Malformed, InputLimit, Stopped}
 use Rattle.http_front.specs.Heads.{bearer}
 use Rattle.http_serve.specs.Asked.{Asked, answer_at, answer, moments}
 use Rattle.http_serve.specs.Connection.{ConnectionRun}
 use Rattle.http_serve.specs.Listening.{Visit, IsVisit, Visits}
-use Rattle.http_serve.proofs.Replying.{stands_now}
+use Rattle.sts_serve.proofs.Kept.{Left, how_left, left_of}
 
 -- ---- what a crash leaves
-
-left_of : (sts : Standing) (config : Config) (journal : List Entry) → Stands sts config journal → (told : Told) (image : List ℕ) → sts.journal.told ≡ Some told
-    → MayLeave told.now image → StandsForEntries journal image
-left_of sts config journal stands told image is crash =
-    subst (λ (t : Option Told). LeavesNow t (StandsFor (texts_of journal))) is (stands_now sts config journal stands) image crash
-
--- the service that a run left, but for one whose disk failed
-Left : Served → Config → List Entry → List Entry → Standing → Type 0
-Left end config journal next sts = Stands sts config journal ⊎ ((end ≡ Stopped Journal) × LeavesNow sts.journal.told (StandsForEither journal next))
-
-how_left : (end : Served) (config : Config) (journal next : List Entry) (sts : Standing) → LeavesService end config journal next sts → Left end config journal next sts
-unfolding Left
-how_left Done config journal next sts left = inl left
-how_left ReadFault config journal next sts left = inl left
-how_left WriteFault config journal next sts left = inl left
-how_left ClockFault config journal next sts left = inl left
-how_left (Malformed offset) config journal next sts left = inl left
-how_left InputLimit config journal next sts left = inl left
-how_left (Stopped Memory) config journal next sts left = inl left
-how_left (Stopped Journal) config journal next sts left = inr (refl, left.1)
-how_left (Stopped Broken) config journal next sts left = absurd left
 
 module _ (config : Config) (before : List Entry) (old new : Standing) (left left' taken taken' clock clock' : Option (List ℕ)) (end : Served)
     (run : ConnectionRun config before old new left left' taken taken' clock clock' end) (told : Told) (image : List ℕ) (is : new.journal.told ≡ Some told) (crash : MayLeave told.now image) where

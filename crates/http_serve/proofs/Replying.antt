@@ -1,39 +1,18 @@
 -- An answer that was not written whole, and the service that it leaves.
-use Rattle.std.proofs.Common.{◌≡◌, ◌≢◌, ◌<◌, ◌⊎◌, ℕ, List, [], ◌∷◌, ◌++◌, length, refl, sym, ◌∙◌, ap, subst, ⊎_elim, inl, inr, arith, length-append}
+use Rattle.std.proofs.Common.{◌≡◌, ◌≢◌, ◌<◌, ◌⊎◌, ℕ, List, [], ◌∷◌, ◌++◌, length, refl, ap, ⊎_elim, inl, inr, arith, length-append}
 use Rattle.std.specs.Prelude.{Bool, Option, Err}
 use Rattle.std.specs.Io.KnownBytes.{Appends}
-use Rattle.wif_base.specs.Disk.{Leaves, LeavesNow}
 use Rattle.wif_base.specs.Output.{IsProperPart}
 use Rattle.wif_base.specs.declared.request.Reply.{Reply}
-use Rattle.wif_base.proofs.Moments.{leaves-at_end}
-use Rattle.service_config.specs.declared.config.Config.{Config}
-use Rattle.grant_journal.specs.JournalBytes.{StandsFor}
 use Rattle.grant_journal.specs.Journals.{JournalView}
-use Rattle.grant_journal.proofs.Stands.{settled_now}
 use Rattle.links.specs.declared.entry.Entry.{Entry}
-use Rattle.service_journal.specs.Journals.{texts_of}
-use Rattle.sts_core.specs.State.{Causes, Standing, Stands, StandsForEither, Stays, with_journal}
+use Rattle.sts_core.specs.State.{Standing, Stays}
 use Rattle.sts_core.specs.declared.stop.Stop.{Stop}
 use Rattle.sts_core.specs.declared.stop.Stop.TheVariants.{Memory, Journal, Broken}
 use Rattle.sts_serve.specs.Answered.{Answers}
-use Rattle.sts_serve.specs.Left.{LeavesService}
 use Rattle.sts_serve.specs.declared.served.Served.{Served}
 use Rattle.sts_serve.specs.declared.served.Served.TheVariants.{Stopped}
 use Rattle.http_front.specs.Replies.{front_text, response_text}
-
--- a service that stands for a journal may be left as that journal alone
-pub stands_now : (sts : Standing) (config : Config) (journal : List Entry) → Stands sts config journal → LeavesNow sts.journal.told (StandsFor (texts_of journal))
-stands_now sts config journal stands = settled_now (texts_of journal) sts.journal.len sts.journal.told stands.settled
-
--- a request that got no reply
-pub stopped_left : (stop : Stop) (old new : Standing) (config : Config) (journal next : List Entry) → Stands old config journal → Stays stop old new
-    → Causes stop old.journal new.journal → Leaves old.journal.told new.journal.told (StandsForEither journal next)
-    → LeavesService (Stopped stop) config journal next new
-stopped_left Memory old new config journal next stands stays cause leaves =
-    subst (λ (s : Standing). Stands s config journal) (sym (stays.0 ∙ ap (λ (j : JournalView). with_journal old j) stays.1)) stands
-stopped_left Journal old new config journal next stands stays cause leaves =
-    (stays.1, leaves-at_end old.journal.told new.journal.told (StandsForEither journal next) leaves)
-stopped_left Broken old new config journal next stands stays cause leaves = absurd (cc (cause, stands.whole))
 
 -- but for a fault of the disk its journal is whole or broken as before
 pub stays_whole : (stop : Stop) (old new : Standing) → Stays stop old new → (stop ≢ Journal) → new.journal.broken ≡ old.journal.broken

@@ -30,7 +30,7 @@ use Rattle.http_front.specs.Streams.{stream_text, StreamBegins, GoesOn}
 use Rattle.http_front.specs.declared.rule.HttpRule.{HttpRule}
 use Rattle.http_serve.specs.Asked.{Asked, answer, messages, moments}
 use Rattle.http_serve.specs.Connection.{EndsAs, ConnectionRun}
-use Rattle.http_serve.proofs.Replying.{stands_now}
+use Rattle.sts_serve.proofs.Replying.{stands_now}
 use Rattle.http_serve.proofs.Requests.{all-push, map-push, last-of, stream-push, front-goes, length-messages, texts, texts-push, length-texts, entries-push, behind_all, behind_now, behind_next, moments_more}
 
 abbrev IsTimely : ℕ → Type 0

@@ -16,8 +16,14 @@ shorter part text (more, some, is) = by more refl
     by [] none = absurd (some none)
     by (x ∷ rest) same = omega (arith, ap length is, length-append part more, ap length same)
 
-counted : (texts : List (List ℕ)) (m n : ℕ) (p q : List ℕ) → AllByRecursion (λ (text : List ℕ). 0 < length text) texts → m ≤ length texts → n ≤ length texts
+-- the text isn't empty
+unfoldable pub IsText : List ℕ → Type 0
+IsText text = 0 < length text
+
+-- so many whole texts and a part of the next are so many
+pub counted : (texts : List (List ℕ)) (m n : ℕ) (p q : List ℕ) → AllByRecursion IsText texts → m ≤ length texts → n ≤ length texts
     → IsPartOf (slice_get texts m) p → IsPartOf (slice_get texts n) q → concat (take m texts) ++ p ≡ concat (take n texts) ++ q → m ≡ n
+unfolding IsText
 counted [] m n p q some m_low n_low m_part n_part is = omega arith
 counted (text ∷ texts) zero zero p q some m_low n_low m_part n_part is = refl
 counted (text ∷ texts) zero (suc n) p q some m_low n_low m_part n_part is =
@@ -29,7 +35,8 @@ counted (text ∷ texts) (suc m) (suc n) p q some m_low n_low m_part n_part is =
     (append_cancel_left text (concat (take m texts) ++ p) (concat (take n texts) ++ q)
     (sym (append_assoc text (concat (take m texts)) p) ∙ is ∙ append_assoc text (concat (take n texts)) q)))
 
-some_texts : (replies : List Reply) → AllByRecursion (λ (text : List ℕ). 0 < length text) (reply_frames replies)
+some_texts : (replies : List Reply) → AllByRecursion IsText (reply_frames replies)
+unfolding IsText
 some_texts [] = tt
 some_texts (reply ∷ replies) = (some_text reply, some_texts replies)
 

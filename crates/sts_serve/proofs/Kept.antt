@@ -35,10 +35,10 @@ left_of sts config journal stands told image is crash =
     subst (λ (t : Option Told). LeavesNow t (StandsFor (texts_of journal))) is (stands_now sts config journal stands) image crash
 
 -- the service that a run left, but for one whose disk failed
-Left : Served → Config → List Entry → List Entry → Standing → Type 0
+unfoldable pub Left : Served → Config → List Entry → List Entry → Standing → Type 0
 Left end config journal next sts = Stands sts config journal ⊎ ((end ≡ Stopped Journal) × LeavesNow sts.journal.told (StandsForEither journal next))
 
-how_left : (end : Served) (config : Config) (journal next : List Entry) (sts : Standing) → LeavesService end config journal next sts → Left end config journal next sts
+pub how_left : (end : Served) (config : Config) (journal next : List Entry) (sts : Standing) → LeavesService end config journal next sts → Left end config journal next sts
 unfolding Left
 how_left Done config journal next sts left = inl left
 how_left ReadFault config journal next sts left = inl left

@@ -1,8 +1,8 @@
 pub mod Cuts
-mod Counted
+pub mod Counted
 mod Fronts
 pub mod Kept
-mod Replying
+pub mod Replying
 pub mod Runs
 mod Stages
 mod Words

@@ -92,7 +92,8 @@ pub fn sts_run<G: Source, I: Source, O: Sink, D: Disk, C: Clock>(
     ensures script { command (texts words.now) ≡ Some Command.Script
         → (StopsBefore result × (input.new ≡ input.old) × (output.new ≡ output.old) × (disk.new ≡ disk.old))
         ⊎ ((setup : _) × Configured (G.left config.old) (G.left config.new) setup
-        × (((fault : OpenFault) × NotOpened fault setup (D.told disk.old) (D.told disk.new) (O.taken output.old) (O.taken output.new) result × (input.new ≡ input.old))
+        × (((fault : OpenFault) × NotOpened fault setup (D.told disk.old) (D.told disk.new) (O.taken output.old) (O.taken output.new) result
+        × (input.new ≡ input.old))
         ⊎ ((before : List Entry) × Holds setup before (D.told disk.old)
         × ScriptOutcome setup before (I.left input.old) (I.left input.new) (O.taken output.old) (O.taken output.new)
         (told_synced (D.told disk.old)) (D.told disk.new) result))) }

@@ -26,7 +26,8 @@ pub(crate) fn script_status<G: Source, I: Source, O: Sink, D: Disk>(
 ) -> u8
     ensures outcome { (StopsBefore result × (input.new ≡ input.old) × (output.new ≡ output.old) × (disk.new ≡ disk.old))
         ⊎ ((setup : _) × Configured (G.left config.old) (G.left config.new) setup
-        × (((fault : Unread) × NotOpened fault setup (D.told disk.old) (D.told disk.new) (O.taken output.old) (O.taken output.new) result × (input.new ≡ input.old))
+        × (((fault : Unread) × NotOpened fault setup (D.told disk.old) (D.told disk.new) (O.taken output.old) (O.taken output.new) result
+        × (input.new ≡ input.old))
         ⊎ ((before : List Entry) × Holds setup before (D.told disk.old)
         × ScriptOutcome setup before (I.left input.old) (I.left input.new) (O.taken output.old) (O.taken output.new)
         (told_synced (D.told disk.old)) (D.told disk.new) result))) }
@@ -72,7 +73,8 @@ fn run_over<I: Source, O: Sink, D: Disk>(
     requires few { 9 + 5 * opening.journal.state.content.count ≤ opening.journal.end.len }
     ensures outcome { (config : Config) (held : Option Told) → FindsService config held (D.told disk.old) opening
         → (before : List Entry) × Holds config before held
-        × ScriptOutcome config before (I.left input.old) (I.left input.new) (O.taken output.old) (O.taken output.new) (D.told disk.old) (D.told disk.new) result }
+        × ScriptOutcome config before (I.left input.old) (I.left input.new) (O.taken output.old) (O.taken output.new)
+        (D.told disk.old) (D.told disk.new) result }
     ensures read_fault { result ≡ 3 → Rose (I.faults input.old) (I.faults input.new) }
     ensures write_fault { result ≡ 4 → Rose (O.faults output.old) (O.faults output.new) }
     ensures disk_fault { result ≡ 5 → Rose (D.faults disk.old) (D.faults disk.new) }

@@ -2,7 +2,8 @@ use Rattle.std.proofs.Common.{List, refl, inl, inr}
 use Rattle.links.specs.declared.entry.Entry.{Entry}
 use Rattle.sts_core.specs.Machine.{step, with_entry}
 use Rattle.wif_base.proofs.Known.{appends-nothing, keeps-appends}
-use Rattle.http_serve.proofs.Replying.{some_response, stopped_before, stopped_left}
+use Rattle.sts_serve.proofs.Replying.{stopped_left}
+use Rattle.http_serve.proofs.Replying.{some_response, stopped_before}
 use Rattle.http_serve.proofs.answered.answer_incoming.Goals as goal
 
 pub returns-in-Err-clause-answers : goal.returns-in-Err-clause-answers
