@@ -2,6 +2,7 @@
 //! it is what the call answers. A line that begins with `#` is printed as it stands, and so is an empty one.
 #![tactic(auto)]
 
+mod crashes;
 mod journals;
 mod service;
 
@@ -14,6 +15,7 @@ fn answer(alloc: Global, call: &str, inputs: &Inputs) -> Result<String, AllocErr
         "frame" => service::frame(alloc, inputs),
         "journal" => journals::journal(alloc, inputs),
         "script" => service::script(alloc, inputs),
+        "crash" => crashes::crash(alloc, inputs),
         "connection" => service::connection(alloc, inputs),
         "chains" => service::chains(alloc, inputs),
         "admits" => service::admitted(alloc, inputs),

@@ -115,8 +115,8 @@ fn admitted_in(alloc: Global, state: &State, inputs: &Inputs) -> Result<String, 
     Ok(told)
 }
 
-// Runs the frames over the service of the cases.
-fn run(
+/// Runs the frames over the service of the cases.
+pub(crate) fn run(
     alloc: Global,
     frames: &[u8],
     output: &mut MemSink,
@@ -129,18 +129,30 @@ fn run(
     Ok(Some((sts, end)))
 }
 
-// The service over an empty journal, under the configuration of the cases.
+// The service over an empty journal.
 fn opened(alloc: Global) -> Result<Option<Sts<MemDisk>>, AllocError> {
+    let disk = MemDisk::new(alloc, EMPTY_JOURNAL, 262_144, 4096, Vec::new(alloc))?;
+    opened_on(alloc, disk)
+}
+
+/// The service over a disk, under the configuration of the cases.
+pub(crate) fn opened_on(alloc: Global, disk: MemDisk) -> Result<Option<Sts<MemDisk>>, AllocError> {
     match read_service_config(alloc, CONFIG) {
-        Ok(config) => opened_under(alloc, &config),
-        Err(_) => Ok(None),
+        Ok(config) => opened_under(alloc, &config, disk),
+        Err(_) => {
+            drop(disk);
+            Ok(None)
+        }
     }
 }
 
-fn opened_under(alloc: Global, config: &Config) -> Result<Option<Sts<MemDisk>>, AllocError>
+fn opened_under(
+    alloc: Global,
+    config: &Config,
+    disk: MemDisk,
+) -> Result<Option<Sts<MemDisk>>, AllocError>
     requires { IsFormedConfig config.now }
 {
-    let disk = MemDisk::new(alloc, EMPTY_JOURNAL, 262_144, 4096, Vec::new(alloc))?;
     match Sts::open(alloc, disk, config) {
         Ok(sts) => Ok(Some(sts)),
         Err(OpenFault::Memory) => Err(AllocError),
