@@ -1,7 +1,8 @@
 #!/usr/bin/env bash
 # Requests a second of `sts listen` over loopback: introspections of a live token, checks that are granted and exchanges, each over one connection
 # that is kept and over a connection a request, by one client that waits for each reply. Beside it a plain server in C that reads a head and a
-# body and writes a reply of the same bytes, asked by the same client. Medians of 5 runs; the journal is in memory (bench/journal.sh measures it on a disk).
+# body and writes a reply of the same bytes, and for checks, where `go` is there, one in Go's net/http that verifies the token too, asked by the
+# same client. Medians of 5 runs; the journal is in memory (bench/journal.sh measures it on a disk).
 # SCALE divides the numbers of requests, for a slower program; STS names one that is built already.
 if [ -n "${STS-}" ]; then
     set -eu
@@ -114,8 +115,11 @@ int main(int count, char **words) {
 }
 END_OF_C
 cc -O2 -o "$work/http" "$work/http.c"
+if command -v go >/dev/null; then
+    GOCACHE="$work/cache" go build -o "$work/http_check" "$top/bench/http_check.go"
+fi
 python3 - "$top" "$work" "${SCALE:-1}" <<'END'
-import json, shutil, socket, statistics, subprocess, sys, time
+import json, os, shutil, socket, statistics, subprocess, sys, time
 top, work, scale = sys.argv[1], sys.argv[2], int(sys.argv[3])
 sys.path[:0] = [top + '/tools', top + '/bench']
 from counting import fresh
@@ -171,7 +175,7 @@ resource = '//storage.googleapis.com/projects/_/buckets/artifacts/objects/app.ta
 requests = {'introspection': frame('/v1/introspect', secrets['gate'], now, 'token=' + token), 'exchange': exchange, 'check': frame(
     '/v1/check', secrets['gate'], now, compact({'token': token, 'permission': 'storage.objects.get', 'resource': resource}))}
 
-print(f"{'request':14} {'connections':12} {'sts a second':>13} {'in C':>9} {'sts, us':>9} {'in C, us':>9}")
+print(f"{'request':14} {'connections':12} {'sts a second':>13} {'in C':>9} {'in Go':>9} {'sts, us':>9} {'in C, us':>9} {'in Go, us':>10}")
 for name, made in requests.items():
     answer = reply(made)
     if b'"active":true' not in answer and b'"allowed":true' not in answer and b'"access_token"' not in answer:
@@ -180,7 +184,11 @@ for name, made in requests.items():
         with open(work + '/reply', 'wb') as f:
             f.write(answer if closes else answer.replace(b'Connection: close\r\n', b''))
         count, connections = (CLOSED, CLOSED + 1) if closes else (KEPT, 1)
-        mine = statistics.median(rate([work + '/sts', 'listen', config, begun(), 'PORT', str(connections)], count, closes, asked(made, closes)) for _ in range(RUNS))
-        plain = statistics.median(rate([work + '/http', 'serve', 'PORT', str(connections), '0', work + '/reply'], count, closes, asked(made, closes)) for _ in range(RUNS))
-        print(f"{name:14} {'one each' if closes else 'one':12} {mine:13.0f} {plain:9.0f} {1e6 / mine:9.1f} {1e6 / plain:9.1f}", flush=True)
+        servers = [[work + '/sts', 'listen', config, None, 'PORT', str(connections)], [work + '/http', 'serve', 'PORT', str(connections), '0', work + '/reply']]
+        if name == 'check' and os.path.exists(work + '/http_check'):
+            servers.append([work + '/http_check', config, 'PORT', str(connections)])
+        found = [statistics.median(rate([begun() if word is None else word for word in server], count, closes, asked(made, closes)) for _ in range(RUNS))
+                 for server in servers]
+        rates = ''.join(f' {one:9.0f}' for one in found[1:]) + ' ' * (3 - len(found)) * 10
+        print(f"{name:14} {'one each' if closes else 'one':12} {found[0]:13.0f}{rates}" + ''.join(f' {1e6 / one:9.1f}' for one in found), flush=True)
 END
